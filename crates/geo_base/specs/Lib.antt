@@ -1,0 +1,5 @@
+pub mod Corners
+pub mod Inside
+pub mod Listing
+pub mod Notes
+pub mod StoredNotes
