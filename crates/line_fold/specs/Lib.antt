@@ -1,4 +1,4 @@
 pub mod Examples
 pub mod Folding
 pub mod Lines
-pub mod laws
+pub mod Laws

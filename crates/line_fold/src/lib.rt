@@ -1,5 +1,5 @@
 // A text as a fold over its lines. The definitions stand in specs/, and the laws by which a reader that takes the
-// text piece by piece meets them in specs/laws; the functions here carry laws and worked examples.
+// text piece by piece meets them in specs/Laws; the functions here carry laws and worked examples.
 #![tactic(auto)]
 
 ghost use Rattle.std.specs.Prelude.{◌≡◌, ◌++◌, [], ◌∷◌, List, ℕ, codes, Ok, Err};

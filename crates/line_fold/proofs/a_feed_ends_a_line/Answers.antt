@@ -1,4 +1,4 @@
-use Rattle.line_fold.specs.laws.Cuts.{ended-cut, lines-cut}
+use Rattle.line_fold.specs.Laws.Cuts.{ended-cut, lines-cut}
 use Rattle.line_fold.proofs.a_feed_ends_a_line.Goals as goal
 
 pub returns-clause-ended : goal.returns-clause-ended

@@ -8,7 +8,7 @@ use Rattle.std.proofs.lemmas.List.Elements.{All-take}
 use Rattle.std.proofs.lemmas.List.{take_all, length-take, append-nil, length-append, take-append-le}
 use Rattle.line_fold.specs.Lines.{is_line_feed, is_nothing, ended_lines, open_line, lines_of}
 use Rattle.line_fold.specs.Folding.{continued, fold_lines, past_limit, folded}
-use Rattle.line_fold.specs.laws.Cuts.{HasNoFeed, ended-part, open-part, ended-cut, open-cut, lines-cut}
+use Rattle.line_fold.specs.Laws.Cuts.{HasNoFeed, ended-part, open-part, ended-cut, open-cut, lines-cut}
 
 -- The state behind the lines that ended, a front of the open line, and how many bytes were read.
 pub record Progress (S : Type 0) : Type 0 where
@@ -54,7 +54,7 @@ either : {A : Type 0} (t : Bool) (x y z : A) → x ≡ z → y ≡ z → cond t 
 either true x y z p q = p
 either false x y z p q = q
 
-take_past : (xs ys : List ℕ) (k : ℕ) → length xs ≤ k → take k (xs ++ ys) ≡ xs ++ take (k - length xs) ys
+pub take_past : (xs ys : List ℕ) (k : ℕ) → length xs ≤ k → take k (xs ++ ys) ≡ xs ++ take (k - length xs) ys
 take_past xs ys k h = let sum : k ≡ length xs + (k - length xs) = omega arith in ap (λ n. take n (xs ++ ys)) sum ∙ take-append-add xs ys (k - length xs)
 
 plain_front : (n : ℕ) (part : List ℕ) → HasNoFeed part → HasNoFeed (take n part)

@@ -1,0 +1,5 @@
+pub mod Digits
+pub mod Fronts
+pub mod Pieces
+pub mod Sources
+pub mod WordLemmas

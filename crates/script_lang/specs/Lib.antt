@@ -1,0 +1,7 @@
+pub mod Blanks
+pub mod Grammar
+pub mod Numbers
+pub mod Reader
+pub mod Scripts
+pub mod Views
+pub mod Words

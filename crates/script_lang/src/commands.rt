@@ -1,0 +1,49 @@
+// What a script says and what is answered.
+
+use geo_base::{IndexKind, ItemList, Note, Point, Rect, Row};
+use thiserror::Error;
+
+/// A command of a script.
+#[derive(Debug, Drop)]
+pub enum Command {
+    Put(Row),
+    Region(IndexKind, Rect),
+}
+
+pub type CommandList = ItemList<Command>;
+
+pub type LaneList = ItemList<CommandList>;
+
+pub type RowList = ItemList<Row>;
+
+/// The commands before the lanes, those of each lane, and those after them.
+#[derive(Drop)]
+pub struct Script {
+    pub setup: CommandList,
+    pub lanes: LaneList,
+    pub after: CommandList,
+}
+
+/// Why a script can't be read.
+#[derive(Debug, Drop, Error)]
+pub enum ScriptFault {
+    #[error("the source failed")]
+    Source,
+    #[error("line {0} is bad")]
+    BadLine(u64),
+    #[error("the script is too long")]
+    TooLong,
+    #[error("out of memory")]
+    OutOfMemory,
+}
+
+/// The answer of a command.
+#[derive(Drop)]
+pub enum Answer {
+    /// The key is new.
+    PutNew,
+    /// What stood at the key.
+    PutOld(Point, Note),
+    /// The rows of a region, ascending by key.
+    Rows(RowList),
+}
