@@ -137,7 +137,6 @@ module _ (kept most_bytes most : ℕ) (enough : MOST_LINE + 2 ≤ kept) where
         folded-closed Reading Wrong kept most_bytes too_long (after_line most) first_reading (omega (arith, enough)) same read p b bound empty ∙ sym (input_closed p empty)
   ]
 
-
   -- one line more of the piece
   pub partway_line : (old p q : Progress Reading) (piece rest : List ℕ) (at : ℕ) → IsPartway kept most old p piece rest → IsFeedAt rest at
       → after_end most_bytes most p (take at rest) ≡ Ok q → IsPartway kept most old q piece (drop (at + 1) rest)
