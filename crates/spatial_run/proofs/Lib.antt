@@ -1,0 +1,5 @@
+pub mod Causes
+pub mod Entries
+pub mod History
+pub mod Plain
+pub mod Printed

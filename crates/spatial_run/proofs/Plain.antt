@@ -1,0 +1,100 @@
+-- A run that has a setup alone: its history and its text.
+use Rattle.std.specs.Prelude.{◌≡◌, ℕ, ◌+◌, ◌<◌, Bool, true, false, cond, ◌||◌, List, [], ◌∷◌, ◌++◌, length, map, All, T, nat_lt, Result, Ok, Err, is_err}
+use Rattle.std.specs.List.{list_any, flat_map}
+use Rattle.std.proofs.Common.{ap, sym, ◌∙◌, subst, arith, refl}
+use Rattle.std.proofs.lemmas.Bool.{lt-ltb}
+use Rattle.std.proofs.lemmas.List.{append-nil}
+use Rattle.dev_model.specs.declared.streams.Failed.{Failed}
+use Rattle.table_model.specs.Commands.{Command, Outcome, answered, refused}
+use Rattle.table_model.specs.Phases.{Phases}
+use Rattle.table_model.specs.Record.{RunRecord, HistoryAnswer, FitsScript, lane_answers, lanes_answers, all_answers, in_order, inserted, history, seqs, Rises, history_text, refusals_text, lanes_refusals_text, record_text, OneEach, OneEachLane, AllApart, IsBefore}
+use Rattle.spatial_run.specs.declared.record.Outcome as rust
+use Rattle.spatial_run.specs.Endings.{is_refused, any_refused, status_of, ran}
+use Rattle.spatial_run.specs.Views.{outcome_of, outcomes_of}
+use Rattle.spatial_run.specs.Steps.{IsSetupAlone, answers_text, answered_part, place_after}
+
+abbrev seqs_in : List HistoryAnswer → List ℕ
+seqs_in es = map (λ e. e.seq) es
+
+-- a list that rises is in order
+pub in_order_rising : (es : List HistoryAnswer) → Rises (seqs_in es) → in_order es ≡ es
+in_order_rising [] h = refl
+in_order_rising (e ∷ []) h = refl
+in_order_rising (e ∷ f ∷ es) h =
+    ap (inserted e) (in_order_rising (f ∷ es) h.1) ∙ ap (λ t. cond t (e ∷ f ∷ es) (f ∷ inserted e es)) (lt-ltb e.seq f.seq h.0)
+
+answers_seqs : (cs : List Command) (os : List Outcome) → length cs ≡ length os → seqs_in (lane_answers 0 cs os) ≡ seqs os
+answers_seqs [] [] e = refl
+answers_seqs [] (o ∷ os) e = absurd (omega arith)
+answers_seqs (c ∷ cs) [] e = absurd (omega arith)
+answers_seqs (c ∷ cs) (answered seq reply ∷ os) e = ap (λ ns. seq ∷ ns) (answers_seqs cs os (omega arith))
+answers_seqs (c ∷ cs) (refused why ∷ os) e = answers_seqs cs os (omega arith)
+
+history_text_of : (place : ℕ) (cs : List Command) (os : List Outcome) → length cs ≡ length os → history_text place (lane_answers 0 cs os) ≡ answers_text place os
+history_text_of place [] [] e = refl
+history_text_of place [] (o ∷ os) e = absurd (omega arith)
+history_text_of place (c ∷ cs) [] e = absurd (omega arith)
+history_text_of place (c ∷ cs) (answered seq reply ∷ os) e = ap (λ t. answered_part place (answered seq reply) ++ t) (history_text_of (place + 1) cs os (omega arith))
+history_text_of place (c ∷ cs) (refused why ∷ os) e = history_text_of place cs os (omega arith)
+
+-- with no lanes and nothing after them the answers are those of the setup
+answers_alone : (s : Phases Command) (r : RunRecord) → IsSetupAlone s → all_answers s r ≡ lane_answers 0 s.setup r.setup
+answers_alone s r alone =
+    ap (λ ls. lane_answers 0 s.setup r.setup ++ lanes_answers 1 ls r.lanes ++ lane_answers 0 s.after r.after) alone.0
+    ∙ ap (λ cs. lane_answers 0 s.setup r.setup ++ [] ++ lane_answers 0 cs r.after) alone.1
+    ∙ append-nil (lane_answers 0 s.setup r.setup ++ [])
+    ∙ append-nil (lane_answers 0 s.setup r.setup)
+
+pub history_alone : (s : Phases Command) (r : RunRecord) → IsSetupAlone s → length s.setup ≡ length r.setup → Rises (seqs r.setup) → history s r ≡ lane_answers 0 s.setup r.setup
+history_alone s r alone one_each rises =
+    ap in_order (answers_alone s r alone)
+    ∙ in_order_rising (lane_answers 0 s.setup r.setup) (subst Rises (sym (answers_seqs s.setup r.setup one_each)) rises)
+
+pub record_text_alone : (s : Phases Command) (r : RunRecord) → IsSetupAlone s → IsSetupAlone r → length s.setup ≡ length r.setup → Rises (seqs r.setup)
+    → record_text s r ≡ answers_text 0 r.setup ++ refusals_text 0 r.setup
+record_text_alone s r alone alone' one_each rises =
+    (λ i. history_text 0 (history_alone s r alone one_each rises i) ++ refusals_text 0 (r.setup ++ alone'.1 i) ++ lanes_refusals_text 1 (alone'.0 i))
+    ∙ append-nil (history_text 0 (lane_answers 0 s.setup r.setup) ++ refusals_text 0 (r.setup ++ []))
+    ∙ (λ i. history_text_of 0 s.setup r.setup one_each i ++ refusals_text 0 (append-nil r.setup i))
+
+nothing_all : {X : Type 0} (P : X → Type 0) (xs : List X) → xs ≡ [] → All P xs
+nothing_all P xs e = subst (All P) (sym e) (λ i d h. absurd (omega (arith, h)))
+
+nothing_after : (r : RunRecord) → IsSetupAlone r → flat_map seqs r.lanes ++ seqs r.after ≡ []
+nothing_after r alone = λ i. flat_map seqs (alone.0 i) ++ seqs (alone.1 i)
+
+pub fits_alone : (s : Phases Command) (r : RunRecord) → IsSetupAlone s → IsSetupAlone r → OneEach s.setup r.setup → Rises (seqs r.setup) → FitsScript s r
+fits_alone s r alone alone' one_each rises = record {
+  setup = one_each;
+  lanes = subst (λ l. OneEachLane l r.lanes) (sym alone.0) (subst (λ l. OneEachLane [] l) (sym alone'.0) tt);
+  after = subst (λ l. OneEach l r.after) (sym alone.1) (subst (λ l. OneEach [] l) (sym alone'.1) tt);
+  setup_rises = rises;
+  lanes_rise = nothing_all (λ os. Rises (seqs os)) r.lanes alone'.0;
+  lanes_apart = subst (λ l. AllApart (map seqs l)) (sym alone'.0) tt;
+  after_rises = subst (λ os. Rises (seqs os)) (sym alone'.1) tt;
+  setup_first = λ i d h j e k. let none : j < 0 = subst (λ l. j < length l) (nothing_after r alone') k in absurd (omega (arith, none));
+  after_last = λ i d h j e k. let none : j < 0 = subst (λ os. j < length (seqs os)) alone'.1 k in absurd (omega (arith, none));
+}
+
+any_mapped : (os : List rust.Outcome) → list_any is_refused (outcomes_of os) ≡ list_any (λ o. is_refused (outcome_of o)) os
+any_mapped [] = refl
+any_mapped (o ∷ os) = ap (λ t. is_refused (outcome_of o) || t) (any_mapped os)
+
+or_false : (a : Bool) → (a || false || false) ≡ a
+or_false true = refl
+or_false false = refl
+
+pub any_refused_alone : (r : RunRecord) (os : List rust.Outcome) → IsSetupAlone r → r.setup ≡ outcomes_of os → any_refused r ≡ list_any (λ o. is_refused (outcome_of o)) os
+any_refused_alone r os alone is =
+    (λ i. list_any is_refused r.setup || list_any (λ l. list_any is_refused l) (alone.0 i) || list_any is_refused (alone.1 i))
+    ∙ or_false (list_any is_refused r.setup)
+    ∙ ap (list_any is_refused) is
+    ∙ any_mapped os
+
+pub status_refused : (s : Phases Command) (r : RunRecord) (sent : Result (Unit {0}) Failed) → is_err sent ≡ false → any_refused r ≡ true → status_of (ran s r) sent ≡ 8
+status_refused s r (Ok x) whole any = rw any
+status_refused s r (Err f) whole any = cc
+
+pub status_unrefused : (s : Phases Command) (r : RunRecord) (sent : Result (Unit {0}) Failed) → is_err sent ≡ false → any_refused r ≡ false → status_of (ran s r) sent ≡ 0
+status_unrefused s r (Ok x) whole any = rw any
+status_unrefused s r (Err f) whole any = cc

@@ -1,0 +1,92 @@
+// The outcomes of one lane, printed: first the answers by place, then the refusals.
+ghost use Rattle.std.specs.Prelude.{◌≡◌, ◌+◌, ◌-◌, ◌^◌, ◌<◌, ◌≤◌, ◌++◌};
+ghost use Rattle.std.specs.List.{list_any};
+ghost use Rattle.dev_model.specs.Counts.{Counts};
+ghost use Rattle.dev_model.specs.Streams.{Says};
+ghost use Rattle.table_model.specs.Record.{refusals_text};
+ghost use Rattle.spatial_run.specs.Endings.{is_refused};
+ghost use Rattle.spatial_run.specs.Views.{outcome_of, outcomes_of};
+ghost use Rattle.spatial_run.specs.Steps.{answers_text, answered_part, place_after, refused_part};
+
+use crate::record::Outcome;
+use dev_model::{Failed, Sink};
+use script_lang::{print_answer, print_refused};
+
+fn print_answered<K: Sink>(out: &mut K, place: u64, outcome: &Outcome) -> Result<(), Failed>
+    ensures counts { Counts (K.fault_count out.old) (K.fault_count out.new) result }
+    ensures told { Says (K.taken out.old) (K.taken out.new) (answered_part place (outcome_of outcome.now)) result }
+{
+    match outcome {
+        Outcome::Answered { answer, .. } => print_answer(out, place, 0, answer),
+        Outcome::Refused(_) => Ok(()),
+    }
+}
+
+fn next_place(place: u64, outcome: &Outcome) -> u64
+    requires { place < 2 ^ 64 - 1 }
+    ensures exact { result ≡ place_after place (outcome_of outcome.now) }
+    ensures bound { result ≤ place + 1 }
+{
+    match outcome {
+        Outcome::Answered { .. } => place + 1,
+        Outcome::Refused(_) => place,
+    }
+}
+
+fn print_answers<K: Sink>(out: &mut K, outcomes: &[Outcome]) -> Result<(), Failed>
+    ensures counts { Counts (K.fault_count out.old) (K.fault_count out.new) result }
+    ensures told { Says (K.taken out.old) (K.taken out.new) (answers_text 0 (outcomes_of outcomes.now)) result }
+{
+    let mut place = 0u64;
+    for outcome in outcomes {
+        if let Err(e) = print_answered(out, place, outcome) {
+            return Err(e);
+        }
+        place = next_place(place, outcome);
+    }
+    Ok(())
+}
+
+fn print_refusal<K: Sink>(out: &mut K, outcome: &Outcome) -> Result<(), Failed>
+    ensures counts { Counts (K.fault_count out.old) (K.fault_count out.new) result }
+    ensures told { Says (K.taken out.old) (K.taken out.new) (refused_part (outcome_of outcome.now)) result }
+{
+    match outcome {
+        Outcome::Refused(why) => print_refused(out, 0, *why),
+        Outcome::Answered { .. } => Ok(()),
+    }
+}
+
+fn print_refusals<K: Sink>(out: &mut K, outcomes: &[Outcome]) -> Result<(), Failed>
+    ensures counts { Counts (K.fault_count out.old) (K.fault_count out.new) result }
+    ensures told { Says (K.taken out.old) (K.taken out.new) (refusals_text 0 (outcomes_of outcomes.now)) result }
+{
+    for outcome in outcomes {
+        if let Err(e) = print_refusal(out, outcome) {
+            return Err(e);
+        }
+    }
+    Ok(())
+}
+
+/// Prints the outcomes of lane 0.
+pub fn print_outcomes<K: Sink>(out: &mut K, outcomes: &[Outcome]) -> Result<(), Failed>
+    ensures counts { Counts (K.fault_count out.old) (K.fault_count out.new) result }
+    ensures told { Says (K.taken out.old) (K.taken out.new)
+        (answers_text 0 (outcomes_of outcomes.now) ++ refusals_text 0 (outcomes_of outcomes.now)) result }
+{
+    if let Err(e) = print_answers(out, outcomes) {
+        return Err(e);
+    }
+    print_refusals(out, outcomes)
+}
+
+/// Whether a command was refused.
+pub fn has_refusal(outcomes: &[Outcome]) -> bool
+    ensures { result ≡ list_any (λ o. is_refused (outcome_of o)) outcomes.now }
+{
+    outcomes.iter().any(|o| match o {
+        Outcome::Refused(_) => true,
+        Outcome::Answered { .. } => false,
+    })
+}
