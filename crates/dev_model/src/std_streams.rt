@@ -1,6 +1,8 @@
 // Std's readers and writers as a source and a sink. They tell what the reader or the writer tells: a file, a pipe and
 // the standard streams tell nothing.
 ghost use Rattle.std.specs.Prelude.{◌≡◌};
+ghost use Rattle.std.specs.Io.KnownBytes.{Keeps};
+ghost use Rattle.dev_model.specs.Counts.{Counts};
 
 use crate::streams::{Failed, Sink, Source};
 use std::io::{Read, Write};
@@ -70,6 +72,20 @@ impl<W: Write> WriteSink<W> {
     {
         WriteSink { writer, faults: 0 }
     }
+
+    /// Hands on what the writer holds back. `Failed` where the writer answers an error, which is a fault too.
+    pub fn flush(&mut self) -> Result<(), Failed>
+        ensures counts { Counts self.old.faults self.new.faults result }
+        ensures told { Keeps (W.contents self.old.inner) (W.contents self.new.inner) }
+    {
+        match self.writer.flush() {
+            Ok(()) => Ok(()),
+            Err(_) => {
+                self.faults = self.faults.saturating_add(1);
+                Err(Failed)
+            }
+        }
+    }
 }
 
 impl<W: Write> Sink for WriteSink<W> {
@@ -128,6 +144,9 @@ mod tests {
         }
 
         fn flush(&mut self) -> std::io::Result<()> {
+            if self.calls > 3 {
+                return Err(Error::from(ErrorKind::BrokenPipe));
+            }
             Ok(())
         }
     }
@@ -152,5 +171,9 @@ mod tests {
             assert_eq!(rt; sink.write(b"ab"), answer);
             assert_eq!(rt; sink.faults(), faults);
         }
+        assert_eq!(rt; sink.flush(), Ok(()));
+        assert_eq!(rt; sink.write(b"ab"), Err(Failed));
+        assert_eq!(rt; sink.flush(), Err(Failed));
+        assert_eq!(rt; sink.faults(), 4);
     }
 }

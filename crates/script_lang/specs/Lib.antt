@@ -1,4 +1,5 @@
 pub mod Blanks
+pub mod Examples
 pub mod Grammar
 pub mod Numbers
 pub mod Reader

@@ -29,4 +29,4 @@ returns-clause-sink g c =
 pub returns-clause-sink_rose : goal.returns-clause-sink_rose
 returns-clause-sink_rose g c =
     λ h. subst (λ n. (0 < n) × (n ≤ 4)) (sym c.status.ensures)
-        (sink_rose (g.K.Sink.fault_count c.args.out.now) (g.K.Sink.fault_count c.print_ending-sent.new.out) (ending_of c.decide-ending.result) c.print_ending-sent.result c.print_ending-sent.ensures.counts h)
+    (sink_rose (g.K.Sink.fault_count c.args.out.now) (g.K.Sink.fault_count c.print_ending-sent.new.out) (ending_of c.decide-ending.result) c.print_ending-sent.result c.print_ending-sent.ensures.counts h)
