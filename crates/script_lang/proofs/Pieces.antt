@@ -1,11 +1,11 @@
 -- A reader over the pieces of a script.
-use Rattle.std.specs.Prelude.{◌≡◌, ℕ, suc, ◌+◌, ◌-◌, ◌<◌, ◌≤◌, cond, List, [], ◌∷◌, ◌++◌, length, take, drop, Option, Some, None, Result, Ok, Err}
+use Rattle.std.specs.Prelude.{◌≡◌, ℕ, ◌+◌, ◌<◌, ◌≤◌, List, [], ◌∷◌, ◌++◌, length, take, drop, Result, Ok, Err}
 use Rattle.std.proofs.Common.{ap, sym, ◌∙◌, subst, arith, refl, inl, inr, append_assoc}
 use Rattle.std.proofs.lemmas.Bool.{cases_lt, lt-ltb, le-ltb, le-leb, lt-leb}
 use Rattle.std.proofs.lemmas.List.{length-append, append-nil}
 use Rattle.line_fold.specs.Folding.{continued, folded}
 use Rattle.line_fold.specs.Laws.Cuts.{HasNoFeed}
-use Rattle.line_fold.specs.Laws.Streaming.{Progress, IsBehind, behind_nothing, behind_part, behind_line, folded-refused, folded-too_long, folded-open, folded-closed}
+use Rattle.line_fold.specs.Laws.Streaming.{Progress, behind_nothing, behind_part, behind_line, folded-refused, folded-too_long, folded-open, folded-closed}
 use Rattle.script_lang.specs.declared.commands.ScriptFault.{ScriptFault}
 use Rattle.script_lang.specs.declared.commands.ScriptFault.TheVariants.{Source, OutOfMemory, BadLine, TooLong}
 use Rattle.script_lang.specs.declared.limits.TheConstants.{MOST_LINE}

@@ -12,8 +12,8 @@ use Rattle.script_lang.specs.declared.commands.ScriptFault.TheVariants.{Source, 
 use Rattle.script_lang.specs.declared.limits.TheConstants.{MOST_LINE}
 use Rattle.script_lang.specs.Scripts.{Wrong, bad_line, too_long, Reading, Fails, ReadsFrom, CountsFaults, after_line, first_reading, script_in, script_of}
 use Rattle.script_lang.specs.Views.{phases_of}
-use Rattle.script_lang.specs.Reader.{Breaks, Leaves, Behind, TakesPiece, after_input}
-use Rattle.script_lang.proofs.Pieces.{Breaks-from, begins, input_folded}
+use Rattle.script_lang.specs.Reader.{Breaks, Behind, TakesPiece, after_input}
+use Rattle.script_lang.proofs.Pieces.{begins, input_folded}
 
 pub record IsLeft (bytes : List ℕ) (after : Option (List ℕ)) (read : List ℕ) : Type 0 where
   pub rest : List ℕ

@@ -1,14 +1,14 @@
 -- The words of a line, from its front.
-use Rattle.std.specs.Prelude.{◌≡◌, ℕ, ◌+◌, ◌<◌, ◌≤◌, Bool, true, false, not, List, [], ◌∷◌, length, take, drop, filter, All, ◌⊎◌}
-use Rattle.std.specs.List.{slice_split, position_or_len, prefix_len, before_first, after_first}
-use Rattle.std.proofs.Common.{ap, sym, ◌∙◌, subst, get_or, arith, refl, inl, inr, add-zero, add-one}
+use Rattle.std.specs.Prelude.{◌≡◌, ℕ, ◌<◌, ◌≤◌, Bool, true, false, not, List, [], ◌∷◌, length, take, drop, filter, All}
+use Rattle.std.specs.List.{slice_split, position_or_len, after_first}
+use Rattle.std.proofs.Common.{ap, sym, ◌∙◌, get_or, arith, refl, inl, inr, add-zero}
 use Rattle.std.proofs.lemmas.Bool.{cases_lt}
 use Rattle.std.proofs.lemmas.Grind.{common_steps}
 use Rattle.std.proofs.lemmas.List.{take_all, length-take, get_or-drop, drop-drop}
 use Rattle.std.proofs.Math.ListN.{drop_of_length-le}
 use Rattle.std.proofs.lemmas.List.Splits.{slice_split-cons_yes, slice_split_none, slice_split_first}
 use Rattle.std.proofs.lemmas.List.Elements.{All-from_get_or}
-use Rattle.std.proofs.lemmas.List.Sums.{prefix_len_passes, prefix_len_stops, prefix_len-le-length}
+use Rattle.std.proofs.lemmas.List.Sums.{prefix_len_passes, prefix_len_stops}
 use Rattle.line_fold.specs.Lines.{is_nothing}
 use Rattle.script_lang.specs.Words.{is_blank, words_of}
 use Rattle.script_lang.specs.Blanks.{StartsPlain}

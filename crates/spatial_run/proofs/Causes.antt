@@ -1,10 +1,8 @@
 -- The statuses and their causes, one by one.
-use Rattle.std.specs.Prelude.{◌≡◌, ℕ, ◌<◌, ◌≤◌, Bool, true, false, cond, List, Option, Some, None, IfSome, Result, Ok, Err, IsErr}
-use Rattle.std.proofs.Common.{arith, refl, sym, ◌∙◌, subst}
+use Rattle.std.specs.Prelude.{◌≡◌, ℕ, ◌<◌, ◌≤◌, Bool, true, false, cond, List, Option, Some, None, Result, Ok, Err, IsErr}
+use Rattle.std.proofs.Common.{arith, refl, sym, subst}
 use Rattle.dev_model.specs.declared.streams.Failed.{Failed}
 use Rattle.dev_model.specs.Counts.{Rose, Counts}
-use Rattle.table_model.specs.Commands.{Command}
-use Rattle.table_model.specs.Phases.{Phases}
 use Rattle.script_lang.specs.Scripts as script
 use Rattle.script_lang.specs.Scripts.{Wrong}
 use Rattle.spatial_run.specs.Endings.{Ending, bad_words, source_fault, bad_line, too_long, no_memory, ran, is_serial, any_refused, status_of, IsCause, IsScript, HasBadScript}

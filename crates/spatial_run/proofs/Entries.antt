@@ -1,5 +1,5 @@
 -- A row put among entries that ascend by key.
-use Rattle.std.specs.Prelude.{◌≡◌, ℕ, List, [], ◌∷◌, length, map, Option, Some, None, T, Bool, true, false, cond}
+use Rattle.std.specs.Prelude.{◌≡◌, ℕ, List, [], ◌∷◌, length, map, Option, Some, T, Bool, true, false, cond}
 use Rattle.std.specs.Option.{option_map}
 use Rattle.std.specs.Ordering.{nat_cmp, is_eq, match_ordering}
 use Rattle.std.specs.declared.cmp.Ordering.{Ordering}
@@ -11,7 +11,7 @@ use Rattle.std.specs.FinMap.{is_sorted, find, get, insert, empty, entries, entri
 use Rattle.std.specs.FinMap.Entries.{put, by_order}
 use Rattle.std.proofs.Common.{ap, sym, ◌∙◌, subst, refl}
 use Rattle.geo_base.specs.declared.points.Point.{Point}
-use Rattle.table_model.specs.Table.{Table, Place, row_at, rows_of}
+use Rattle.table_model.specs.Table.{row_at, rows_of}
 use Rattle.spatial_run.specs.Entries.{place_in, entry_in, row_in, IsAscending, table_of}
 
 abbrev Stored : Type 0

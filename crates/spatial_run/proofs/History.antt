@@ -2,7 +2,7 @@
 use Rattle.std.specs.Prelude.{◌≡◌, ℕ, suc, ◌+◌, ◌<◌, List, [], ◌∷◌, ◌++◌, length, map, take}
 use Rattle.std.specs.FinMap.{empty}
 use Rattle.std.proofs.Common.{ap, sym, ◌∙◌, subst, arith, refl, get_or}
-use Rattle.std.proofs.lemmas.List.{length-append, map-append, append-nil, take_more}
+use Rattle.std.proofs.lemmas.List.{map-append, append-nil, take_more}
 use Rattle.table_model.specs.Table.{Table}
 use Rattle.table_model.specs.declared.Why.{Why}
 use Rattle.table_model.specs.declared.Why.TheVariants.{Memory}

@@ -1,6 +1,6 @@
 -- A text that is printed in parts.
-use Rattle.std.specs.Prelude.{◌≡◌, ℕ, ◌+◌, ◌<◌, List, [], ◌∷◌, ◌++◌, length, map, drop, Option, Some, None, Result, Ok, Err}
-use Rattle.std.proofs.Common.{ap, sym, ◌∙◌, subst, get_or, arith, refl, append_assoc}
+use Rattle.std.specs.Prelude.{◌≡◌, ℕ, ◌+◌, ◌<◌, List, [], ◌∷◌, ◌++◌, length, drop, Option, Ok, Err}
+use Rattle.std.proofs.Common.{ap, sym, ◌∙◌, get_or, refl, append_assoc}
 use Rattle.std.proofs.lemmas.List.{at_drop_more, append-nil}
 use Rattle.spatial_run.specs.declared.record.Outcome.{Outcome}
 use Rattle.spatial_run.specs.Views.{outcome_of, outcomes_of}

@@ -1,12 +1,10 @@
 -- Worked examples: two lanes that each put a row and ask for it, in one of their shuffles; and a script
 -- of one lane with a refused command. No public contract but that of the examples needs this file.
 use Rattle.std.specs.Prelude.{ℕ, List, [], ◌∷◌, codes}
-use Rattle.geo_base.specs.Corners.{Corners}
-use Rattle.geo_base.specs.declared.points.Point.{Point}
 use Rattle.geo_base.specs.declared.points.Row.{Row}
 use Rattle.geo_base.specs.declared.points.IndexKind.TheVariants.{Dhvb}
 use Rattle.table_model.specs.declared.Why.TheVariants.{Memory}
-use Rattle.table_model.specs.Commands.{Command, write, put, region, Outcome, answered, refused, wrote, rows, put_new, put_old}
+use Rattle.table_model.specs.Commands.{Command, write, put, region, answered, refused, wrote, rows, put_new, put_old}
 use Rattle.table_model.specs.Phases.{Phases}
 use Rattle.table_model.specs.Record.{RunRecord}
 

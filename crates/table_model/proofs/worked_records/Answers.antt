@@ -1,4 +1,4 @@
-use Rattle.std.proofs.Common.{◌≡◌, length, List, [], ◌∷◌, ap, sym, ◌∙◌, refl, Some, None, Option, ℕ}
+use Rattle.std.proofs.Common.{◌≡◌, length, [], ◌∷◌, ap, sym, ◌∙◌, refl, Some, None}
 use Rattle.std.specs.Fmt.{digits}
 use Rattle.std.specs.Ordering.{nat_cmp}
 use Rattle.std.specs.Cmp.{nat_cmp_total}

@@ -1,8 +1,8 @@
-use Rattle.std.proofs.Common.{◌≡◌, ◌∙◌, sym, ap, refl, Ok, Err, ◌++◌}
+use Rattle.std.proofs.Common.{◌∙◌, sym, ap, Ok, Err, ◌++◌}
 use Rattle.dev_model.specs.declared.streams.Failed.{Failed}
 use Rattle.dev_model.specs.Laws.Chained.{says_then, says_cut, says_same}
 use Rattle.script_lang.specs.Views.{reply_of}
-use Rattle.table_model.specs.Text.{front_text, first_line, more_lines, rows_text, answer_text}
+use Rattle.table_model.specs.Text.{front_text, first_line, more_lines, rows_text}
 use Rattle.script_lang.proofs.printing.print_answer.Goals as goal
 
 pub returns-in-Err-clause-told : goal.returns-in-Err-clause-told

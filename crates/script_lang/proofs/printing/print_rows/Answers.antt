@@ -1,4 +1,4 @@
-use Rattle.std.proofs.Common.{◌≡◌, ◌<◌, ◌∙◌, sym, arith, refl, Ok, Err, length, take, drop, ◌+◌}
+use Rattle.std.proofs.Common.{◌∙◌, sym, arith, refl, Ok, Err, take, drop, ◌+◌}
 use Rattle.dev_model.specs.declared.streams.Failed.{Failed}
 use Rattle.dev_model.specs.Laws.Chained.{says_nothing, says_then, says_cut, says_same}
 use Rattle.table_model.specs.Text.{row_text, rows_text}

@@ -1,5 +1,5 @@
-use Rattle.std.proofs.Common.{◌≡◌, ◌∙◌, ◌+◌, ◌-◌, ◌≤◌, ◌<◌, sym, subst, ap, refl, arith}
-use Rattle.script_lang.specs.declared.limits.TheConstants.{MOST_BYTES, MOST_COMMANDS, MOST_LINE}
+use Rattle.std.proofs.Common.{◌∙◌, sym, subst, ap, refl, arith}
+use Rattle.script_lang.specs.declared.limits.TheConstants.{MOST_BYTES, MOST_COMMANDS}
 use Rattle.script_lang.specs.declared.reading.TheConstants.{FRONT}
 use Rattle.script_lang.specs.Reader.{after_input}
 use Rattle.script_lang.proofs.Sources.{Underway, CountsFaults-from_breaks, underway_begins, underway_step, underway_fails, underway_counts, underway_ends, underway_ends_badly}

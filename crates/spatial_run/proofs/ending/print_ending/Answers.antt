@@ -1,4 +1,4 @@
-use Rattle.std.proofs.Common.{◌≡◌, ◌∙◌, ap, sym, subst, ◌++◌}
+use Rattle.std.proofs.Common.{◌∙◌, ap, sym, subst, ◌++◌}
 use Rattle.dev_model.specs.declared.streams.Failed.{Failed}
 use Rattle.dev_model.specs.Laws.Chained.{says_same}
 use Rattle.table_model.specs.Record.{refusals_text}

@@ -1,4 +1,4 @@
-use Rattle.std.proofs.Common.{◌≡◌, ◌∙◌, ap, sym, subst, refl, true, false}
+use Rattle.std.proofs.Common.{◌≡◌, ◌∙◌, ap, sym, subst, true, false}
 use Rattle.script_lang.specs.Views.{phases_of}
 use Rattle.spatial_run.specs.Views.{record_of, outcomes_of, ending_of}
 use Rattle.spatial_run.specs.Endings.{status_of, any_refused}

@@ -1,4 +1,4 @@
-use Rattle.std.proofs.Common.{◌≡◌, ◌≤◌, drop, Ok}
+use Rattle.std.proofs.Common.{◌≡◌, ◌≤◌, drop}
 use Rattle.spatial_run.specs.Views.{outcomes_of}
 use Rattle.spatial_run.specs.Steps.{answers_text}
 use Rattle.spatial_run.proofs.Printed.{Printing}

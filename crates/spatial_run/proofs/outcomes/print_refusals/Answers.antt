@@ -1,4 +1,4 @@
-use Rattle.std.proofs.Common.{◌≡◌, ◌∙◌, sym, ap, arith, refl, ◌+◌, drop, []}
+use Rattle.std.proofs.Common.{◌≡◌, ◌∙◌, ap, arith, refl, drop, []}
 use Rattle.std.proofs.Math.ListN.{drop_of_length-le}
 use Rattle.table_model.specs.Record.{refusals_text}
 use Rattle.spatial_run.specs.Views.{outcomes_of}

@@ -1,9 +1,9 @@
-use Rattle.std.proofs.Common.{◌≡◌, ◌∙◌, ap, sym, arith, refl, List, take, length}
+use Rattle.std.proofs.Common.{◌≡◌, ◌∙◌, ap, arith, refl, take}
 use Rattle.std.proofs.lemmas.List.{take_all}
 use Rattle.table_model.specs.declared.Why.TheVariants.{Memory}
 use Rattle.script_lang.specs.Views.{commands_of}
 use Rattle.spatial_run.specs.Views.{outcomes_of}
-use Rattle.spatial_run.proofs.History.{Underway, then_answered, then_refused, all_ran}
+use Rattle.spatial_run.proofs.History.{then_answered, then_refused, all_ran}
 use Rattle.spatial_run.proofs.running.run_commands.Goals as goal
 use Rattle.spatial_run.proofs.running.run_commands.Goals.{in-Ok, in-Err}
 

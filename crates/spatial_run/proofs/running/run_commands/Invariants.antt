@@ -1,4 +1,4 @@
-use Rattle.std.proofs.Common.{◌≡◌, ◌+◌, ◌≤◌, length, take}
+use Rattle.std.proofs.Common.{◌+◌, ◌≤◌, length, take}
 use Rattle.spatial_run.specs.Views.{outcomes_of}
 use Rattle.script_lang.specs.Views.{commands_of}
 use Rattle.spatial_run.proofs.History.{Underway}

@@ -1,7 +1,6 @@
-use Rattle.std.proofs.Common.{◌≡◌, ◌∙◌, ap, sym, subst, refl, map}
+use Rattle.std.proofs.Common.{ap, sym, subst, refl, map}
 use Rattle.std.specs.FinMap.{empty}
 use Rattle.table_model.specs.Record.{IsAnswered}
-use Rattle.table_model.specs.Phases.{Phases}
 use Rattle.script_lang.specs.Views.{phases_of}
 use Rattle.table_model.specs.Record as run
 use Rattle.script_lang.specs.Views.{commands_of}

@@ -1,5 +1,4 @@
-use Rattle.std.proofs.Common.{◌≡◌, ◌<◌, ◌≤◌, ℕ, sym, ◌∙◌, map, subst, List, Option}
-use Rattle.spatial_run.specs.Endings.{Ending}
+use Rattle.std.proofs.Common.{◌<◌, ◌≤◌, sym, ◌∙◌, map, subst}
 use Rattle.spatial_run.specs.Views.{ending_of}
 use Rattle.spatial_run.proofs.Causes.{only_words, other_words, only_source, source_rose, only_bad_script, only_sink, sink_rose}
 use Rattle.spatial_run.proofs.top.run_top.Goals as goal

@@ -1,4 +1,4 @@
-use Rattle.std.proofs.Common.{◌≡◌, ◌∙◌, ◌++◌, ap, arith}
+use Rattle.std.proofs.Common.{◌∙◌, ◌++◌, ap, arith}
 use Rattle.script_lang.specs.Grammar.{meaning_of}
 use Rattle.script_lang.specs.declared.reading.TheConstants.{FRONT}
 use Rattle.script_lang.proofs.Fronts.{meaning_of_front}

@@ -1,6 +1,6 @@
 use Rattle.std.proofs.Common.{◌≡◌, ◌+◌, ◌-◌, ◌≤◌, refl, arith, subst, sym, length, take, drop, ℕ, List}
 use Rattle.std.proofs.lemmas.List.{take_rest, length-take, length-drop}
-use Rattle.script_lang.specs.declared.limits.TheConstants.{MOST_BYTES, MOST_COMMANDS, MOST_LINE}
+use Rattle.script_lang.specs.declared.limits.TheConstants.{MOST_BYTES, MOST_COMMANDS}
 use Rattle.script_lang.specs.declared.reading.TheConstants.{FRONT}
 use Rattle.script_lang.proofs.Pieces.{IsPartway, nothing_taken, partway_line, partway_refused, partway_ends}
 use Rattle.script_lang.proofs.reading.Reader.take_piece.Goals as goal
