@@ -10,7 +10,8 @@ use Rattle.script_lang.specs.declared.commands.Script.{Script}
 use Rattle.script_lang.specs.declared.commands.ScriptFault.{ScriptFault}
 use Rattle.script_lang.specs.declared.commands.ScriptFault.TheVariants.{Source, OutOfMemory, BadLine, TooLong}
 use Rattle.script_lang.specs.declared.limits.TheConstants.{MOST_LINE}
-use Rattle.script_lang.specs.Scripts.{Wrong, bad_line, too_long, Reading, Fails, ReadsFrom, CountsFaults, after_line, first_reading, script_in, script_of}
+use Rattle.script_lang.specs.Faults.{Fails, ReadsFrom, CountsFaults}
+use Rattle.script_lang.specs.Scripts.{Wrong, bad_line, too_long, Reading, after_line, first_reading, script_in, script_of}
 use Rattle.script_lang.specs.Views.{phases_of}
 use Rattle.script_lang.specs.Reader.{Breaks, Behind, TakesPiece, after_input}
 use Rattle.script_lang.proofs.Pieces.{begins, input_folded}

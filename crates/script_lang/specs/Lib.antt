@@ -1,5 +1,6 @@
 pub mod Blanks
 pub mod Examples
+pub mod Faults
 pub mod Grammar
 pub mod Numbers
 pub mod Reader

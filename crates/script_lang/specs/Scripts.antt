@@ -1,14 +1,9 @@
 -- What a script says: its commands in their phases, or the first thing that is wrong with it.
-use Rattle.std.specs.Prelude.{◌≡◌, ℕ, ◌+◌, nat_lt, if◌then◌else◌, List, [], ◌∷◌, ◌++◌, Option, Some, None, Result, Ok, Err}
-use Rattle.dev_model.specs.Counts.{Rose}
+use Rattle.std.specs.Prelude.{ℕ, ◌+◌, nat_lt, if◌then◌else◌, List, [], ◌∷◌, ◌++◌, Result, Ok, Err}
 use Rattle.line_fold.specs.Folding.{folded}
 use Rattle.table_model.specs.Commands.{Command}
 use Rattle.table_model.specs.Phases.{Phases}
-use Rattle.script_lang.specs.declared.commands.Script.{Script}
-use Rattle.script_lang.specs.declared.commands.ScriptFault.{ScriptFault}
-use Rattle.script_lang.specs.declared.commands.ScriptFault.TheVariants.{Source, BadLine, TooLong, OutOfMemory}
 use Rattle.script_lang.specs.Grammar.{Meaning, nothing, step, bad, meaning_of}
-use Rattle.script_lang.specs.Views.{phases_of}
 
 pub data Wrong : Type 0 where
   bad_line : ℕ → Wrong
@@ -47,27 +42,3 @@ script_in (Err e) = Err e
 -- line that ended before it is named.
 unfoldable pub script_of : ℕ → ℕ → List ℕ → Result (Phases Command) Wrong
 script_of most_bytes most_commands bytes = script_in (folded most_bytes too_long (after_line most_commands) bytes first_reading)
-
--- A call answered what the script of the bytes is, unless the source failed or memory ran out.
-abbrev pub Fails : {X : Type 0} → ScriptFault → Result X Wrong → Type 0
-Fails Source read = Unit {0}
-Fails OutOfMemory read = Unit {0}
-Fails (BadLine n) read = read ≡ Err (bad_line n)
-Fails TooLong read = read ≡ Err too_long
-
-abbrev pub ReadsAs : Result (Phases Command) Wrong → Result Script ScriptFault → Type 0
-ReadsAs read (Ok s) = read ≡ Ok (phases_of s)
-ReadsAs read (Err e) = Fails e read
-
--- the same of a source that tells its bytes
-abbrev pub ReadsFrom : ℕ → ℕ → Option (List ℕ) → Result Script ScriptFault → Type 0
-ReadsFrom most_bytes most_commands None r = Unit {0}
-ReadsFrom most_bytes most_commands (Some bytes) r = ReadsAs (script_of most_bytes most_commands bytes) r
-
--- the source's count of faults rose where the source failed, and nowhere else
-abbrev pub CountsFaults : ℕ → ℕ → Result Script ScriptFault → Type 0
-CountsFaults old new (Ok s) = new ≡ old
-CountsFaults old new (Err Source) = Rose old new
-CountsFaults old new (Err OutOfMemory) = new ≡ old
-CountsFaults old new (Err (BadLine n)) = new ≡ old
-CountsFaults old new (Err TooLong) = new ≡ old

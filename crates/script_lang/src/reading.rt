@@ -3,7 +3,8 @@ ghost use Rattle.std.specs.Prelude.{◌≡◌, ℕ, List, ◌+◌, ◌<◌, ◌�
 ghost use Rattle.line_fold.specs.Laws.Cuts.{HasNoFeed};
 ghost use Rattle.script_lang.specs.Grammar.{meaning_of};
 ghost use Rattle.script_lang.specs.Reader.{Leaves, Behind, TakesPiece, IsFeedAt, after_part, after_end, after_input, added};
-ghost use Rattle.script_lang.specs.Scripts.{ReadsFrom, CountsFaults, first_reading};
+ghost use Rattle.script_lang.specs.Faults.{ReadsFrom, CountsFaults};
+ghost use Rattle.script_lang.specs.Scripts.{first_reading};
 ghost use Rattle.script_lang.specs.Views.{phases_of, meaning_as};
 
 use crate::commands::{CommandList, LaneList, Script, ScriptFault};

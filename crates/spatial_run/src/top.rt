@@ -1,60 +1,12 @@
 // The top call: what the program does with its words, its script and its output.
 ghost use Rattle.std.specs.Prelude.{◌≡◌, ◌<◌, ◌≤◌, ◌↔◌, map, false};
 ghost use Rattle.dev_model.specs.Counts.{Rose};
-ghost use Rattle.script_lang.specs.Views.{phases_of};
-ghost use Rattle.spatial_run.specs.Endings.{is_serial, IsCause, HasBadScript, Ends};
-ghost use Rattle.spatial_run.specs.Views.{ending_of};
-ghost use Rattle.spatial_run.specs.Steps.{IsSetupAlone, IsRunOf, IsPlain};
+ghost use Rattle.spatial_run.specs.Endings.{is_serial, HasBadScript, Ends};
 
-use crate::ending::{Ending, print_ending, status};
-use crate::record::{LaneOutcomes, OutcomeList, RunRecord};
-use crate::running::run_commands;
+use crate::command::run_command;
+use crate::ending::{print_ending, status};
 use dev_model::{Sink, Source};
-use script_lang::{Script, ScriptFault, read_script};
 use std::alloc::Global;
-
-fn is_serial_command(words: &[&str]) -> bool
-    ensures { result ≡ is_serial (map (λ w. w.now) words.now) }
-{
-    match words {
-        [word] => *word == "serial",
-        _ => false,
-    }
-}
-
-fn run_script(alloc: Global, script: Script) -> Ending
-    requires { IsSetupAlone (phases_of script) }
-    ensures run { IsRunOf (phases_of script) (ending_of result) }
-    ensures plain { IsPlain (ending_of result) }
-{
-    match run_commands(alloc, script.setup.as_slice()) {
-        Ok(setup) => Ending::Ran(
-            script,
-            RunRecord {
-                setup,
-                lanes: LaneOutcomes::new(alloc),
-                after: OutcomeList::new(alloc),
-            },
-        ),
-        Err(_) => Ending::NoMemory,
-    }
-}
-
-fn decide<R: Source>(alloc: Global, words: &[&str], script: &mut R) -> Ending
-    ensures cause { IsCause (map (λ w. w.now) words.now) (R.fault_count script.old) (R.fault_count script.new) (R.left script.old) (ending_of result) }
-    ensures plain { IsPlain (ending_of result) }
-{
-    if !is_serial_command(words) {
-        return Ending::BadWords;
-    }
-    match read_script(alloc, script) {
-        Ok(script) => run_script(alloc, script),
-        Err(ScriptFault::Source) => Ending::SourceFault,
-        Err(ScriptFault::BadLine(line)) => Ending::BadLine(line),
-        Err(ScriptFault::TooLong) => Ending::TooLong,
-        Err(ScriptFault::OutOfMemory) => Ending::NoMemory,
-    }
-}
 
 /// Runs the command that the words name on the script, prints, and answers the program's status.
 ///
@@ -79,7 +31,7 @@ pub fn run_top<R: Source, K: Sink>(alloc: Global, words: &[&str], script: &mut R
     ensures sink { result ≡ 4 → Rose (K.fault_count out.old) (K.fault_count out.new) }
     ensures sink_rose { K.fault_count out.old < K.fault_count out.new → (0 < result) × (result ≤ 4) }
 {
-    let ending = decide(alloc, words, script);
+    let ending = run_command(alloc, words, script);
     let sent = print_ending(out, &ending);
     status(&ending, sent)
 }

@@ -8,7 +8,7 @@ use Rattle.spatial_run.specs.Views.{outcomes_of, record_of}
 use Rattle.spatial_run.specs.Steps.{IsSetupAlone, Ran}
 use Rattle.spatial_run.proofs.History.{each_length}
 use Rattle.spatial_run.proofs.Plain.{fits_alone, history_alone}
-use Rattle.spatial_run.proofs.top.run_script.Goals as goal
+use Rattle.spatial_run.proofs.command.run_script.Goals as goal
 
 pub returns-in-Ok-clause-run : goal.returns-in-Ok-clause-run
 returns-in-Ok-clause-run c =
