@@ -1,2 +1,6 @@
 -- Laws of the definitions beside this file, for proofs of callers. No public contract needs them.
 pub mod Chained
+pub mod Images
+pub mod Plans
+pub mod Ranges
+pub mod Runs

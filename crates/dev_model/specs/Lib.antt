@@ -1,5 +1,7 @@
 pub mod Adapted
 pub mod Counts
 pub mod Laws
+pub mod Moments
 pub mod Planned
+pub mod Story
 pub mod Streams

@@ -1,0 +1,74 @@
+-- Laws of `Did` and `Ticks`: calls that were planned, of which one may have failed. No public contract needs them.
+use Rattle.std.proofs.Common.{append_assoc, ◌≡◌, ◌⊎◌, inl, inr, ⊎_elim, ℕ, ◌+◌, ◌-◌, ◌<◌, ◌≤◌, List, [], ◌∷◌, ◌++◌, length, Option, Some, None, Result, Ok, Err, OnOk, OnErr, refl, sym, ◌∙◌, ap, subst, arith, zero, suc}
+use Rattle.std.specs.Ordering.{nat_cmp, MatchOrdering}
+use Rattle.std.specs.Cmp.{nat_cmp_is}
+use Rattle.std.specs.declared.cmp.Ordering.{Ordering}
+use Rattle.std.specs.declared.cmp.Ordering.TheVariants.{Less, Equal, Greater}
+use Rattle.std.proofs.lemmas.Option.{same_Some}
+use Rattle.dev_model.specs.Story.{Bytes, Call, Read, Write, Sync, FailedWrite, FailedCall, Past, Calls, Story, clock_of, with_call, bytes_of, bytes_after, bytes_at, after, noted, all_noted, WhereTold, IsImage, IsImageAt, IsImageDuring, IsImageNow, IsSpared, HasChangedNothing, HasFailed, HasStoppedIn, Tells, Did, IsSettled, IsReadable, IsReadFrom, IsCalmAt, patched, part, IsOutside, IsInside}
+use Rattle.dev_model.specs.Laws.Ranges.{patched-outside, patched-inside, part-same}
+use Rattle.dev_model.specs.Story.{Ticks}
+use Rattle.dev_model.specs.Moments.{LeavesOnly, AreSpared, IsImageAmid, WritesWithin}
+use Rattle.dev_model.specs.Laws.Images.{IsReadable-settled}
+use Rattle.dev_model.specs.Laws.Runs.{During, During-append, During-last, after-append, LeavesOnly-calls, LeavesOnly-failed}
+
+-- the first of these calls and no more
+During-front : (s : Story) (before : Calls) (call : Call) (calls : Calls) (P : Bytes → Type 0) → During s (before ++ call ∷ calls) P → During s (before ++ call ∷ []) P
+During-front s before call calls P during =
+    let parts : During s before P × During (after s before) (call ∷ calls) P = During-append s before (call ∷ calls) P during in
+    During-last s before call P parts.0 parts.1.0
+
+-- the run that stopped in these calls
+stopped : (s : Story) (before calls : Calls) (P : Bytes → Type 0) (mid new : Option Story) → mid ≡ Some (after s before) → HasStoppedIn calls mid new
+    → During s (before ++ calls) P → LeavesOnly s new P
+stopped s before [] P mid new told is during = absurd is
+stopped s before (call ∷ calls) P mid new told (inl failed) during = LeavesOnly-failed s before P call mid new told failed (During-front s before call calls P during)
+stopped s before (call ∷ calls) P mid new told (inr more) during =
+    let same : after s (before ++ call ∷ []) ≡ with_call (after s before) call = after-append s before (call ∷ []) in
+    stopped s (before ++ call ∷ []) calls P (noted call mid) new
+    (ap (noted call) told ∙ ap (λ (t : Story). Some t) (sym same)) more
+    (subst (λ (c : Calls). During s c P) (sym (append_assoc before (call ∷ []) calls)) during)
+
+-- what is told after these calls
+pub all_noted-told : (s : Story) (calls : Calls) (old : Option Story) → old ≡ Some s → all_noted calls old ≡ Some (after s calls)
+all_noted-told s [] old told = told
+all_noted-told s (call ∷ calls) old told = all_noted-told (with_call s call) calls (noted call old) (ap (noted call) told)
+
+-- planned calls, whether one of them failed or not: one obligation a call, and one for the end
+pub LeavesOnly-did : {T E : Type 0} (s : Story) (calls : Calls) (P : Bytes → Type 0) (old new : Option Story) (result : Result T E) → old ≡ Some s → Did calls old new result
+    → During s calls P → ((image : Bytes) → IsImageNow (after s calls) image → P image) → LeavesOnly s new P
+LeavesOnly-did s calls P old new (Ok x) told did during now = LeavesOnly-calls s calls P new (did ∙ all_noted-told s calls old told) during now
+LeavesOnly-did s calls P old new (Err e) told did during now = stopped s [] calls P old new told did during
+
+-- a device that tells nothing goes on telling nothing
+pub Did-untold : {T E : Type 0} (calls : Calls) (new : Option Story) (result : Result T E) → Did calls None new result → new ≡ None
+Did-untold calls new (Ok x) did = did ∙ all_none calls
+  where
+    all_none : (calls : Calls) → all_noted calls None ≡ None
+    all_none [] = refl
+    all_none (call ∷ calls) = all_none calls
+Did-untold calls new (Err e) did = none calls new did
+  where
+    nothing : (new : Option Story) → HasChangedNothing None new → new ≡ None
+    nothing new (inl is) = is
+    nothing new (inr is) = is
+    failed_none : (call : Call) (new : Option Story) → HasFailed call None new → new ≡ None
+    failed_none (Write at bytes) new (inl is) = is
+    failed_none (Write at bytes) new (inr is) = nothing new is
+    failed_none (Read at count) new is = nothing new is
+    failed_none Sync new is = nothing new is
+    failed_none (FailedWrite at bytes) new is = absurd is
+    failed_none FailedCall new is = absurd is
+    none : (calls : Calls) (new : Option Story) → HasStoppedIn calls None new → new ≡ None
+    none [] new is = absurd is
+    none (call ∷ calls) new (inl is) = failed_none call new is
+    none (call ∷ calls) new (inr is) = none calls new is
+
+-- a write and its sync, whether one of them failed or not: whatever moment it is, anything may stand in the
+-- range, and elsewhere what a crash before them might have left
+pub LeavesOnly-synced : {T E : Type 0} (s : Story) (at : ℕ) (bytes : List ℕ) (old new : Option Story) (result : Result T E) → old ≡ Some s → Did (Write at bytes ∷ Sync ∷ []) old new result
+    → LeavesOnly s new (IsImageDuring s (Write at bytes))
+LeavesOnly-synced s at bytes old new result told did =
+    LeavesOnly-did s (Write at bytes ∷ Sync ∷ []) _ old new result told did
+    ((λ image is. is), ((λ image is i spared settled. is i tt (spared, settled) ∙ patched-outside at bytes (bytes_of s) i spared), tt))
+    (λ image is i spared settled. is i (inr (IsReadable-settled s.past i settled)) ∙ patched-outside at bytes (bytes_of s) i spared)
