@@ -72,3 +72,44 @@ LeavesOnly-synced s at bytes old new result told did =
     LeavesOnly-did s (Write at bytes ∷ Sync ∷ []) _ old new result told did
     ((λ image is. is), ((λ image is i spared settled. is i tt (spared, settled) ∙ patched-outside at bytes (bytes_of s) i spared), tt))
     (λ image is i spared settled. is i (inr (IsReadable-settled s.past i settled)) ∙ patched-outside at bytes (bytes_of s) i spared)
+
+-- no call
+pub Did-nothing : (X E : Type 0) (x : X) (story : Option Story) → Did {X = X} {E = E} [] story story (Ok x)
+Did-nothing X E x story = refl
+
+-- one call
+pub Did-call : (X E : Type 0) (call : Call) (old new : Option Story) (r : Result X E) → Tells call old new r → Did (call ∷ []) old new r
+Did-call X E call old new (Ok x) told = told
+Did-call X E call old new (Err e) failed = inl failed
+
+all_noted-append : (calls more : Calls) (old : Option Story) → all_noted (calls ++ more) old ≡ all_noted more (all_noted calls old)
+all_noted-append [] more old = refl
+all_noted-append (call ∷ calls) more old = all_noted-append calls more (noted call old)
+
+stopped_later : (calls more : Calls) (old new : Option Story) → HasStoppedIn more (all_noted calls old) new → HasStoppedIn (calls ++ more) old new
+stopped_later [] more old new stopped = stopped
+stopped_later (call ∷ calls) more old new stopped = inr (stopped_later calls more (noted call old) new stopped)
+
+-- calls that succeeded, and then more
+pub Did-then : (X Y E : Type 0) (x : X) (calls more : Calls) (old mid new : Option Story) (r : Result Y E) → Did {X = X} {E = E} calls old mid (Ok x) → Did more mid new r → Did (calls ++ more) old new r
+Did-then X Y E x calls more old mid new (Ok y) first second = second ∙ ap (all_noted more) first ∙ sym (all_noted-append calls more old)
+Did-then X Y E x calls more old mid new (Err e) first second = stopped_later calls more old new (subst (λ (m : Option Story). HasStoppedIn more m new) first second)
+
+-- a call that failed cuts off what would have followed
+pub Did-cut : (X Y E F : Type 0) (e : E) (f : F) (calls more : Calls) (old new : Option Story) → Did {X = X} {E = E} calls old new (Err e) → Did {X = Y} {E = F} (calls ++ more) old new (Err f)
+Did-cut X Y E F e f [] more old new stopped = absurd stopped
+Did-cut X Y E F e f (call ∷ calls) more old new (inl failed) = inl failed
+Did-cut X Y E F e f (call ∷ calls) more old new (inr later) = inr (Did-cut X Y E F e f calls more (noted call old) new later)
+
+-- the same calls
+pub Did-same : (X E : Type 0) (calls more : Calls) (old new : Option Story) (r : Result X E) → calls ≡ more → Did calls old new r → Did more old new r
+Did-same X E calls more old new r same did = subst (λ (c : Calls). Did {X = X} {E = E} c old new r) same did
+
+-- the clock over calls, and then over more
+pub Ticks-then : (X Y E : Type 0) (x : X) (m n old mid new : ℕ) (r : Result Y E) → Ticks {X = X} {E = E} m old mid (Ok x) → Ticks n mid new r → Ticks (m + n) old new r
+Ticks-then X Y E x m n old mid new (Ok y) first second = omega (arith, first, second)
+Ticks-then X Y E x m n old mid new (Err e) first second = (omega (arith, first, second.0), omega (arith, first, second.1))
+
+pub Ticks-cut : (X Y E F : Type 0) (e : E) (f : F) (m n old new : ℕ) → Ticks {X = X} {E = E} m old new (Err e) → Ticks {X = Y} {E = F} (m + n) old new (Err f)
+Ticks-cut X Y E F e f m n old new ticks = (ticks.0, omega (arith, ticks.1))
+
