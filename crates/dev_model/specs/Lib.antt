@@ -1,5 +1,6 @@
 pub mod Adapted
 pub mod Counts
+pub mod DeviceCalls
 pub mod Laws
 pub mod Moments
 pub mod Planned
