@@ -1,1 +1,6 @@
+pub mod Allowed
+pub mod Images
+pub mod MemoryLemmas
+pub mod RecordLemmas
+pub mod Replay
 pub mod UnderWay
