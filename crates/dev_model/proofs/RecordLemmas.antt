@@ -2,7 +2,7 @@
 use Rattle.std.proofs.Common.{◌≡◌, ℕ, ◌+◌, ◌<◌, ◌≤◌, List, [], ◌∷◌, ◌++◌, length, take, drop, refl, sym, ◌∙◌, ap, subst, arith, length-append, zero-add}
 use Rattle.std.proofs.lemmas.List.{take-append-le, drop-append-le, append-nil, length-drop, drop_at, take_all}
 use Rattle.dev_model.specs.Story.{Past, Call, Read, Write, Sync, FailedWrite, FailedCall}
-use Rattle.dev_model.specs.Inside.{Noted, bytes_from, entry_of, entries_onto, IsWithin, AreWithin, IsSound}
+use Rattle.dev_model.specs.Inside.{Noted, bytes_from, entry_of, entries_onto, IsWithin, AreWithin, IsSound, AreLaid, BeginsAt, size_of}
 use Rattle.dev_model.specs.Memory.{bytes_noted}
 use Rattle.dev_model.specs.declared.record.Kept.{Kept}
 use Rattle.dev_model.specs.declared.record.Kept.TheVariants as stored
@@ -45,6 +45,10 @@ AreWithin-push : (m n : ℕ) (calls : List Kept) (c : Kept) → m ≤ n → AreW
 AreWithin-push m n [] c le all last = (last, tt)
 AreWithin-push m n (b ∷ calls) c le all last = (IsWithin-more m n b le all.0, AreWithin-push m n calls c le all.1 last)
 
+AreLaid-push : (start end : ℕ) (calls : List Kept) (c : Kept) → AreLaid start calls end → BeginsAt end c → AreLaid start (calls ++ c ∷ []) (end + size_of c)
+AreLaid-push start end [] c laid begins = (subst (λ (n : ℕ). BeginsAt n c) (sym laid) begins, ap (λ (n : ℕ). n + size_of c) laid)
+AreLaid-push start end (b ∷ calls) c laid begins = (laid.0, AreLaid-push (start + size_of b) end calls c laid.1 begins)
+
 module _ (calls : List Kept) (written : List ℕ) (room_calls room_bytes calls_capacity bytes_capacity : ℕ) (sound : IsSound calls written room_calls room_bytes calls_capacity bytes_capacity) where
   pub length-entries : length (entries_onto [] calls written) ≡ length calls
   length-entries = omega (arith, length-entries_onto [] calls written)
@@ -57,8 +61,8 @@ module _ (calls : List Kept) (written : List ℕ) (room_calls room_bytes calls_c
 
     pub sound-after : (calls_now bytes_now : ℕ) → length calls < room_calls → length written + length more ≤ room_bytes → IsWithin (length written + length more) c
         → bytes_noted (entry_of (written ++ more) c ∷ entries_onto [] calls written) ≡ length more + bytes_noted (entries_onto [] calls written)
-        → calls_capacity ≤ calls_now → bytes_capacity ≤ bytes_now → IsSound calls_after written_after room_calls room_bytes calls_now bytes_now
-    sound-after calls_now bytes_now room bytes_room within noted calls_le bytes_le =
+        → calls_capacity ≤ calls_now → bytes_capacity ≤ bytes_now → BeginsAt (length written) c → size_of c ≡ length more → IsSound calls_after written_after room_calls room_bytes calls_now bytes_now
+    sound-after calls_now bytes_now room bytes_room within noted calls_le bytes_le begins size_is =
         let size : length written_after ≡ length written + length more = ap length written_are ∙ length-append written more in
         let count : length calls_after ≡ length calls + 1 = ap length calls_are ∙ length-append calls (c ∷ []) in
         record {
@@ -66,6 +70,10 @@ module _ (calls : List Kept) (written : List ℕ) (room_calls room_bytes calls_c
             (AreWithin-push (length written) (length written_after) calls c (omega arith) sound.within (subst (λ (n : ℕ). IsWithin n c) (sym size) within));
           calls_fit = omega arith;
           bytes_fit = omega arith;
+          laid =
+            let all : AreLaid 0 (calls ++ c ∷ []) (length written + size_of c) = AreLaid-push 0 (length written) calls c sound.laid begins in
+            let end : length written + size_of c ≡ length written_after = omega (arith, size_is) in
+            subst (λ (l : List Kept). AreLaid 0 l (length written_after)) (sym calls_are) (subst (λ (n : ℕ). AreLaid 0 (calls ++ c ∷ []) n) end all);
           bytes_are = ap bytes_noted entries-after ∙ noted ∙ omega (arith, sound.bytes_are);
           calls_taken = omega (arith, sound.calls_taken);
           bytes_taken = omega (arith, sound.bytes_taken);

@@ -1,6 +1,6 @@
 -- What stands inside a device in memory: the calls in one list, the written bytes in another, in room that was taken before.
 -- No public contract needs it.
-use Rattle.std.specs.Prelude.{◌≡◌, ◌⊎◌, ℕ, zero, suc, ◌+◌, ◌*◌, ◌^◌, ◌<◌, ◌≤◌, List, [], ◌∷◌, length, take, drop, slice_index, replicate, Some}
+use Rattle.std.specs.Prelude.{◌≡◌, ◌⊎◌, ℕ, zero, suc, ◌+◌, ◌-◌, ◌*◌, ◌^◌, ◌<◌, ◌≤◌, List, [], ◌∷◌, length, take, drop, slice_index, slice_set, replicate, Some, ◌&&◌, nat_le, nat_lt, if◌then◌else◌}
 use Rattle.std.proofs.Common.{ap, refl}
 use Rattle.std.proofs.lemmas.Option.{same_Some}
 use Rattle.dev_model.specs.Story.{Bytes, Call, Read, Write, Sync, FailedWrite, FailedCall, Past, Story, bytes_after, clock_of, patched}
@@ -45,11 +45,45 @@ abbrev pub AreWithin : ℕ → List Kept → Type 0
 AreWithin size [] = Unit {0}
 AreWithin size (c ∷ calls) = IsWithin size c × AreWithin size calls
 
+-- how many of the written bytes are those of this call
+abbrev pub size_of : Kept → ℕ
+size_of (stored.Write at from count) = count
+size_of (stored.FailedWrite at from count) = count
+size_of (stored.Read at count) = 0
+size_of stored.Sync = 0
+size_of stored.Failed = 0
+
+-- the bytes of this call begin here
+abbrev pub BeginsAt : ℕ → Kept → Type 0
+BeginsAt start (stored.Write at from count) = from ≡ start
+BeginsAt start (stored.FailedWrite at from count) = from ≡ start
+BeginsAt start (stored.Read at count) = Unit {0}
+BeginsAt start stored.Sync = Unit {0}
+BeginsAt start stored.Failed = Unit {0}
+
+-- the bytes of each call begin where those of the call before it end
+abbrev pub AreLaid : (start : ℕ) → List Kept → (end : ℕ) → Type 0
+AreLaid start [] end = start ≡ end
+AreLaid start (c ∷ calls) end = BeginsAt start c × AreLaid (start + size_of c) calls end
+
+-- the written bytes after a byte of the device was changed in this call, and in each of these
+abbrev pub poked_in : (at byte : ℕ) → Kept → List ℕ → List ℕ
+poked_in at byte (stored.Write from first count) written = if nat_le from at && nat_lt (at - from) count then slice_set written (first + (at - from)) byte else written
+poked_in at byte (stored.FailedWrite from first count) written = if nat_le from at && nat_lt (at - from) count then slice_set written (first + (at - from)) byte else written
+poked_in at byte (stored.Read from count) written = written
+poked_in at byte stored.Sync written = written
+poked_in at byte stored.Failed written = written
+
+abbrev pub poked_in_all : (at byte : ℕ) → List Kept → List ℕ → List ℕ
+poked_in_all at byte [] written = written
+poked_in_all at byte (c ∷ calls) written = poked_in_all at byte calls (poked_in at byte c written)
+
 -- what holds of each record: the calls are within its room, and so are their bytes
 pub record IsSound (calls : List Kept) (written : List ℕ) (room_calls room_bytes calls_capacity bytes_capacity : ℕ) : Type 0 where
   pub within : AreWithin (length written) calls
   pub calls_fit : length calls ≤ room_calls
   pub bytes_fit : length written ≤ room_bytes
+  pub laid : AreLaid 0 calls (length written)
   pub bytes_are : bytes_noted (entries_onto [] calls written) ≡ length written
   pub calls_taken : room_calls ≤ calls_capacity
   pub bytes_taken : room_bytes ≤ bytes_capacity

@@ -53,3 +53,19 @@ HasRoom d count = bytes_noted d.past + count ≤ d.room_bytes
 -- the state after a call that failed and changed nothing
 abbrev pub with_failure : MemoryState → MemoryState
 with_failure d = record d { faults = next_count d.faults; past = if nat_lt (length d.past) (2 ^ 64 - 1) then FailedCall ∷ d.past else d.past }
+
+-- a list of bytes from this place on, after the byte at a place of the device was changed
+abbrev pub poked_list : (at byte : ℕ) → ℕ → List ℕ → List ℕ
+poked_list at byte from bytes = if nat_le from at && nat_lt (at - from) (length bytes) then slice_set bytes (at - from) byte else bytes
+
+-- a call, after the byte at a place of the device was changed in what it wrote
+abbrev pub poked_call : (at byte : ℕ) → Call → Call
+poked_call at byte (Write from new) = Write from (poked_list at byte from new)
+poked_call at byte (FailedWrite from new) = FailedWrite from (poked_list at byte from new)
+poked_call at byte (Read from count) = Read from count
+poked_call at byte Sync = Sync
+poked_call at byte FailedCall = FailedCall
+
+-- the state after a byte was changed in the start and in each write that covers it
+abbrev pub poked : (at byte : ℕ) → MemoryState → MemoryState
+poked at byte d = record d { start = slice_set d.start at byte; past = map (poked_call at byte) d.past }

@@ -3,7 +3,7 @@ ghost use Rattle.std.specs.Prelude.{◌≡◌, ◌⊎◌, ◌+◌, ◌-◌, ◌*
 ghost use Rattle.dev_model.specs.Story.{Read, Write, Sync, FailedWrite, FailedCall, IsReadFrom, IsImage, Tells, WhereTold, patched};
 ghost use Rattle.dev_model.specs.Counts.{HasCause, next_count};
 ghost use Rattle.dev_model.specs.Inside.{clock_of-story};
-ghost use Rattle.dev_model.specs.Memory.{place, zeros, story_of, bytes_noted, HasCallLeft, IsListed, HasRoom, Refuses, with_failure};
+ghost use Rattle.dev_model.specs.Memory.{place, zeros, story_of, bytes_noted, HasCallLeft, IsListed, HasRoom, Refuses, with_failure, poked};
 ghost use Rattle.dev_model.specs.TornImages.{image_at};
 
 use crate::device::Device;
@@ -117,6 +117,17 @@ impl MemDevice {
             fail: Vec::new(self.alloc),
             faults: 0,
         })
+    }
+
+    /// Changes a byte, for tests: at clock 0, as it is read, and in each write that covers it. So it is changed in each image,
+    /// but where `Torn::Fill` puts its own byte.
+    pub fn poke(&mut self, at: u64, byte: u8)
+        requires { at < self.old.pages * 4096 }
+        ensures { self.new ≡ poked at byte self.old }
+    {
+        self.start[at as usize] = byte;
+        self.bytes[at as usize] = byte;
+        self.kept.poke(at, byte);
     }
 
     fn calls(&self) -> u64

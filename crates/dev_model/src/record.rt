@@ -1,8 +1,8 @@
 // A record of calls that takes no memory after it was made.
-ghost use Rattle.std.specs.Prelude.{◌≡◌, ◌+◌, ◌<◌, ◌≤◌, ◌↔◌, ◌++◌, [], ◌∷◌, length, IsTrue, IfOk, vec_len, vec_capacity, ℕ, slice_index};
+ghost use Rattle.std.specs.Prelude.{◌≡◌, ◌+◌, ◌<◌, ◌≤◌, ◌↔◌, ◌++◌, [], ◌∷◌, length, IsTrue, IfOk, vec_len, vec_capacity, ℕ, slice_index, map};
 ghost use Rattle.dev_model.specs.Story.{Read, Write, Sync, FailedWrite, FailedCall};
-ghost use Rattle.dev_model.specs.Memory.{bytes_noted};
-ghost use Rattle.dev_model.specs.Inside.{entry_of, entries_onto, IsWithin, AreWithin};
+ghost use Rattle.dev_model.specs.Memory.{bytes_noted, poked_call};
+ghost use Rattle.dev_model.specs.Inside.{entry_of, entries_onto, IsWithin, AreWithin, poked_in, poked_in_all};
 ghost use Rattle.dev_model.specs.Memory.{place};
 ghost use Rattle.dev_model.specs.Inside.{bytes_with, image_with, IsOnDevice, AreOnDevice};
 ghost use Rattle.dev_model.specs.TornImages.{image_during, image_at};
@@ -80,6 +80,13 @@ impl CallRecord {
         replay_calls(&self.calls, &self.written, moment, torn, bytes, image);
     }
 
+    /// Changes the byte at a place of the device in each write that covers it.
+    pub fn poke(&mut self, at: u64, byte: u8)
+        ensures { self.new ≡ record self.old { past = map (poked_call at byte) self.old.past } }
+    {
+        poke_calls(&self.calls, &mut self.written, at, byte);
+    }
+
     pub fn is_full(&self) -> bool
         ensures { IsTrue result ↔ (self.now.room_calls ≤ length self.now.past) }
     {
@@ -132,6 +139,30 @@ impl CallRecord {
         let from = self.written.len();
         push_within(&mut self.calls, Kept::FailedWrite { at, from, count: bytes.len() });
         extend_within(&mut self.written, bytes);
+    }
+}
+
+// Changes the byte at a place of the device in what a call wrote.
+fn poke_call(call: Kept, written: &mut [u8], at: u64, byte: u8)
+    requires { IsWithin (length written.old) call }
+    ensures { written.new ≡ poked_in at byte call written.old }
+{
+    match call {
+        Kept::Write { at: start, from, count } | Kept::FailedWrite { at: start, from, count } => {
+            if start <= at && at - start < count as u64 {
+                written[from + (at - start) as usize] = byte;
+            }
+        }
+        Kept::Read { .. } | Kept::Sync | Kept::Failed => {}
+    }
+}
+
+fn poke_calls(calls: &[Kept], written: &mut [u8], at: u64, byte: u8)
+    requires { AreWithin (length written.old) calls.now }
+    ensures { written.new ≡ poked_in_all at byte calls.now written.old }
+{
+    for call in calls {
+        poke_call(*call, written, at, byte);
     }
 }
 

@@ -18,7 +18,7 @@ invariant_of-self c =
     let f = c.self.inside in
     let count = length-entries f.calls.items f.written.items f.room_calls f.room_bytes (vec_capacity f.calls) (vec_capacity f.written) c.self.invariant in
     sound-after f.calls.items f.written.items f.room_calls f.room_bytes (vec_capacity f.calls) (vec_capacity f.written) c.self.invariant (stored.Failed) [] _ _ c.push_within.ensures.items (sym (append-nil f.written.items)) _ _
-    (omega (arith, ap (λ n. length n.past) c.self.view_is, ap (λ n. n.room_calls) c.self.view_is)) (omega (arith, c.self.invariant.bytes_fit)) tt (omega arith) c.push_within.ensures.capacity (omega arith)
+    (omega (arith, ap (λ n. length n.past) c.self.view_is, ap (λ n. n.room_calls) c.self.view_is)) (omega (arith, c.self.invariant.bytes_fit)) tt (omega arith) c.push_within.ensures.capacity (omega arith) tt refl
 
 pub returns : goal.returns
 returns c =

@@ -27,7 +27,7 @@ invariant_of-self c =
     sound-after f.calls.items f.written.items f.room_calls f.room_bytes (vec_capacity f.calls) (vec_capacity f.written) c.self.invariant (stored.FailedWrite c.args.at c.len-from.result (length c.args.bytes.now)) c.args.bytes.now _ _ c.push_within.ensures.items c.extend_within.ensures.items _ _
     (omega (arith, ap (λ n. length n.past) c.self.view_is, ap (λ n. n.room_calls) c.self.view_is))
     (omega (arith, c.requires.room, ap (λ n. bytes_noted n.past) c.self.view_is, ap (λ n. n.room_bytes) c.self.view_is, c.self.invariant.bytes_are))
-    (omega (arith, from)) (ap (λ (l : List ℕ). length l + bytes_noted (entries_onto [] f.calls.items f.written.items)) bytes) c.push_within.ensures.capacity c.extend_within.ensures.capacity
+    (omega (arith, from)) (ap (λ (l : List ℕ). length l + bytes_noted (entries_onto [] f.calls.items f.written.items)) bytes) c.push_within.ensures.capacity c.extend_within.ensures.capacity from refl
 
 pub returns : goal.returns
 returns c =
