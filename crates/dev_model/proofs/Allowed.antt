@@ -1,11 +1,9 @@
 -- The images that a device in memory makes are images that a crash may leave.
-use Rattle.std.proofs.Common.{◌≡◌, ◌⊎◌, inl, inr, ⊎_elim, ℕ, ◌+◌, ◌-◌, ◌<◌, ◌≤◌, List, [], ◌∷◌, ◌++◌, length, take, replicate, refl, sym, ◌∙◌, ap, subst, arith, length-take, zero, suc}
+use Rattle.std.proofs.Common.{◌≡◌, inl, inr, ℕ, ◌≤◌, List, [], ◌∷◌, length, take, replicate, refl, sym, ◌∙◌, arith, length-take}
 use Rattle.std.proofs.lemmas.List.{length-replicate}
 use Rattle.std.specs.Ordering.{nat_cmp, MatchOrdering}
-use Rattle.std.specs.Cmp.{nat_cmp_is}
-use Rattle.std.specs.declared.cmp.Ordering.{Ordering}
 use Rattle.std.specs.declared.cmp.Ordering.TheVariants.{Less, Equal, Greater}
-use Rattle.dev_model.specs.Story.{Past, Bytes, Call, Read, Write, Sync, FailedWrite, FailedCall, Past, Story, patched, bytes_after, IsOutside, IsReadable, IsSettled, IsSpared, IsImage, IsImageAt, IsImageNow, IsImageDuring}
+use Rattle.dev_model.specs.Story.{Past, Bytes, Call, Read, Write, Sync, FailedWrite, FailedCall, Past, Story, bytes_after, IsOutside, IsSettled, IsSpared, IsImageAt, IsImageNow, IsImageDuring}
 use Rattle.dev_model.specs.Laws.Ranges.{patched-outside}
 use Rattle.dev_model.specs.Inside.{bytes_with, image_with}
 use Rattle.dev_model.specs.TornImages.{overlaid, image_during, image_after, before_at_or_after, image_at}

@@ -1,12 +1,12 @@
 -- Calls that were missed leave each image as it was.
-use Rattle.std.proofs.Common.{◌≡◌, ◌⊎◌, inl, inr, ⊎_elim, ℕ, zero, suc, ◌+◌, ◌<◌, ◌≤◌, min, List, [], ◌∷◌, length, refl, sym, ◌∙◌, ap, arith}
+use Rattle.std.proofs.Common.{◌≡◌, ◌⊎◌, ⊎_elim, ℕ, zero, suc, ◌<◌, ◌≤◌, min, length, refl, sym, ◌∙◌, ap, arith}
 use Rattle.std.specs.Ordering.{nat_cmp}
 use Rattle.std.specs.Cmp.{nat_cmp_is}
 use Rattle.std.specs.declared.cmp.Ordering.{Ordering}
 use Rattle.std.specs.declared.cmp.Ordering.TheVariants.{Less, Equal, Greater}
-use Rattle.dev_model.specs.Story.{Past, Bytes, Call, FailedCall}
+use Rattle.dev_model.specs.Story.{Past, Bytes}
 use Rattle.dev_model.specs.Inside.{with_missed}
-use Rattle.dev_model.specs.TornImages.{image_at, image_after, image_during, before_at_or_after}
+use Rattle.dev_model.specs.TornImages.{image_at, image_after, before_at_or_after}
 use Rattle.dev_model.specs.declared.torn.Torn.{Torn}
 use Rattle.dev_model.proofs.MemoryLemmas.{length-with_missed}
 use Rattle.dev_model.proofs.Replay.{image_at-now}
@@ -37,9 +37,9 @@ module _ (torn : Torn) (start : Bytes) (calls : Past) where
       ⊎_elim
       (λ before. choose n m Less (nat_cmp_is m (length (with_missed n calls)) Less before) ∙ since n m le)
       (λ late. ⊎_elim
-        (λ same. choose n m Equal (nat_cmp_is m (length (with_missed n calls)) Equal same) ∙ image_after-with_missed n)
-        (λ later. choose n m Greater (nat_cmp_is m (length (with_missed n calls)) Greater later) ∙ image_after-with_missed n)
-        (equal_or_above m (length (with_missed n calls)) late))
+      (λ same. choose n m Equal (nat_cmp_is m (length (with_missed n calls)) Equal same) ∙ image_after-with_missed n)
+      (λ later. choose n m Greater (nat_cmp_is m (length (with_missed n calls)) Greater later) ∙ image_after-with_missed n)
+      (equal_or_above m (length (with_missed n calls)) late))
       (before_or_since m (length (with_missed n calls)))
 
   pub image_at-with_missed : (n m : ℕ) → image_at torn start (with_missed n calls) m ≡ image_at torn start calls (min m (length calls))

@@ -1,6 +1,6 @@
 -- A device in memory after a call.
-use Rattle.std.proofs.Common.{◌≡◌, ◌⊎◌, inl, inr, ⊎_elim, ℕ, zero, suc, ◌+◌, ◌*◌, ◌^◌, ◌-◌, ◌<◌, ◌≤◌, List, [], ◌∷◌, length, slice_index, Bool, true, false, not, IsTrue, refl, sym, ◌∙◌, ap, subst, arith}
-use Rattle.dev_model.specs.Story.{Past, Bytes, Call, FailedCall, bytes_after, bytes_of}
+use Rattle.std.proofs.Common.{◌≡◌, ◌⊎◌, inl, ⊎_elim, ℕ, zero, suc, ◌+◌, ◌*◌, ◌^◌, ◌-◌, ◌<◌, ◌≤◌, List, ◌∷◌, length, slice_index, Bool, true, false, not, IsTrue, refl, sym, ◌∙◌, ap, subst, arith}
+use Rattle.dev_model.specs.Story.{Past, Bytes, Call, bytes_after, bytes_of}
 use Rattle.dev_model.specs.Inside.{Noted}
 use Rattle.dev_model.specs.Memory.{bytes_noted}
 use Rattle.dev_model.specs.Inside.{IsOnDevice, AreOnDevice}
@@ -32,7 +32,7 @@ seen pages start kept missed fail faults = record {
 }
 
 module _ (pages : ℕ) (start bytes : List ℕ) (kept : Noted) (missed : ℕ) (fail : List ℕ) (faults : ℕ) (sound : IsSoundMemory pages start bytes kept.past kept.room_calls missed)
-  (state : MemoryState) (view_is : seen pages start kept missed fail faults ≡ state) where
+    (state : MemoryState) (view_is : seen pages start kept missed fail faults ≡ state) where
   pub call_count : length state.past ≡ missed + length kept.past
   call_count = sym (ap (λ (d : MemoryState). length d.past) view_is) ∙ length-with_missed missed kept.past
 

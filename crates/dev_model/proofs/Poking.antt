@@ -5,7 +5,7 @@ use Rattle.std.proofs.Math.Seq.{take-set-lt}
 use Rattle.std.proofs.lemmas.Bool.Decides.{nat_tests}
 use Rattle.dev_model.specs.Story.{Bytes, Call, Read, Write, Sync, FailedWrite, FailedCall, Past, patched, bytes_after, IsInside, IsOutside}
 use Rattle.dev_model.specs.Memory.{place, bytes_noted, poked_list, poked_call}
-use Rattle.dev_model.specs.Inside.{bytes_from, entry_of, entries_onto, IsWithin, AreWithin, size_of, BeginsAt, AreLaid, poked_in, poked_in_all, IsOnDevice, AreOnDevice, with_missed, IsSound, IsSoundMemory}
+use Rattle.dev_model.specs.Inside.{bytes_from, entry_of, entries_onto, IsWithin, AreWithin, size_of, BeginsAt, AreLaid, poked_in, poked_in_all, AreOnDevice, with_missed, IsSound, IsSoundMemory}
 use Rattle.dev_model.specs.Laws.Ranges.{patched-outside, patched-inside}
 use Rattle.dev_model.specs.declared.record.Kept.{Kept}
 use Rattle.dev_model.specs.declared.record.Kept.TheVariants as stored
@@ -125,7 +125,7 @@ module _ (at byte : ℕ) where
   entries_onto-poked earlier (c ∷ calls) start end w laid within =
       let w1 : List ℕ = poked_in at byte c w in
       let own_is : entry_of (poked_in_all at byte calls w1) c ≡ poked_call at byte (entry_of w c) =
-        call_stays c calls (start + size_of c) end w1 laid.1 (ends_within c start laid.0) ∙ own_call c w within.0 in
+      call_stays c calls (start + size_of c) end w1 laid.1 (ends_within c start laid.0) ∙ own_call c w within.0 in
       let size : length w1 ≡ length w = length-poked_in c w in
       ap (λ (e : Call). entries_onto (e ∷ map (poked_call at byte) earlier) calls (poked_in_all at byte calls w1)) own_is
       ∙ entries_onto-poked (entry_of w c ∷ earlier) calls (start + size_of c) end w1 laid.1 (subst (λ (n : ℕ). AreWithin n calls) (sym size) within.1)
@@ -172,10 +172,10 @@ module _ (at byte : ℕ) where
   patched_at from new old is =
       ⊎_elim
       (λ inside.
-        let length_is : length (poked_list at byte from new) ≡ length new = length-poked_list from new in
-        let here : IsInside from (length (poked_list at byte from new)) at = record { from = inside.from; to = omega (arith, inside.to) } in
-        let within : at - from < length new = omega (arith, inside.from, inside.to) in
-        patched-inside from (poked_list at byte from new) old at here ∙ ap (λ (l : List ℕ). get_or l (at - from) 0) (poked_is from new inside) ∙ get_or-set_same new (at - from) byte 0 within)
+      let length_is : length (poked_list at byte from new) ≡ length new = length-poked_list from new in
+      let here : IsInside from (length (poked_list at byte from new)) at = record { from = inside.from; to = omega (arith, inside.to) } in
+      let within : at - from < length new = omega (arith, inside.from, inside.to) in
+      patched-inside from (poked_list at byte from new) old at here ∙ ap (λ (l : List ℕ). get_or l (at - from) 0) (poked_is from new inside) ∙ get_or-set_same new (at - from) byte 0 within)
       (λ outside. patched-outside from (poked_list at byte from new) old at (subst (λ (n : ℕ). IsOutside from n at) (sym (length-poked_list from new)) outside) ∙ is)
       (inside_or_not from (length new) at)
 
@@ -199,12 +199,12 @@ module _ (at byte : ℕ) where
   patched_other from new old before i other is =
       ⊎_elim
       (λ inside.
-        let length_is : length (poked_list at byte from new) ≡ length new = length-poked_list from new in
-        patched-inside from (poked_list at byte from new) old i (record { from = inside.from; to = omega (arith, inside.to) })
-        ∙ get_or-poked_list from new i other inside.from ∙ sym (patched-inside from new before i inside))
+      let length_is : length (poked_list at byte from new) ≡ length new = length-poked_list from new in
+      patched-inside from (poked_list at byte from new) old i (record { from = inside.from; to = omega (arith, inside.to) })
+      ∙ get_or-poked_list from new i other inside.from ∙ sym (patched-inside from new before i inside))
       (λ outside.
-        patched-outside from (poked_list at byte from new) old i (subst (λ (n : ℕ). IsOutside from n i) (sym (length-poked_list from new)) outside)
-        ∙ is ∙ sym (patched-outside from new before i outside))
+      patched-outside from (poked_list at byte from new) old i (subst (λ (n : ℕ). IsOutside from n i) (sym (length-poked_list from new)) outside)
+      ∙ is ∙ sym (patched-outside from new before i outside))
       (inside_or_not from (length new) i)
 
   pub bytes_after-poked_other : (start : List ℕ) (past : Past) (i : ℕ) → i ≢ at → bytes_after (place (set start at byte)) (map (poked_call at byte) past) i ≡ bytes_after (place start) past i
@@ -228,7 +228,7 @@ module _ (at byte : ℕ) where
   read-poked start bytes past in_start in_bytes are i =
       ⊎_elim
       (λ same. subst (λ (n : ℕ). get_or (set bytes at byte) n 0 ≡ bytes_after (place (set start at byte)) (map (poked_call at byte) past) n) (sym same)
-        (get_or-set_same bytes at byte 0 in_bytes ∙ sym (bytes_after-poked_at start past in_start)))
+      (get_or-set_same bytes at byte 0 in_bytes ∙ sym (bytes_after-poked_at start past in_start)))
       (λ other. get_or-set_other bytes at i byte 0 other ∙ are i ∙ sym (bytes_after-poked_other start past i other))
       (same_or_other i)
 

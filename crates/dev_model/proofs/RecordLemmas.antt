@@ -1,7 +1,7 @@
 -- One call more in a record.
-use Rattle.std.proofs.Common.{◌≡◌, ℕ, ◌+◌, ◌<◌, ◌≤◌, List, [], ◌∷◌, ◌++◌, length, take, drop, refl, sym, ◌∙◌, ap, subst, arith, length-append, zero-add}
-use Rattle.std.proofs.lemmas.List.{take-append-le, drop-append-le, append-nil, length-drop, drop_at, take_all}
-use Rattle.dev_model.specs.Story.{Past, Call, Read, Write, Sync, FailedWrite, FailedCall}
+use Rattle.std.proofs.Common.{◌≡◌, ℕ, ◌+◌, ◌<◌, ◌≤◌, List, [], ◌∷◌, ◌++◌, length, take, drop, refl, sym, ◌∙◌, ap, subst, arith, length-append}
+use Rattle.std.proofs.lemmas.List.{take-append-le, drop-append-le, length-drop, drop_at, take_all}
+use Rattle.dev_model.specs.Story.{Past, Call, Write, FailedWrite}
 use Rattle.dev_model.specs.Inside.{Noted, bytes_from, entry_of, entries_onto, IsWithin, AreWithin, IsSound, AreLaid, BeginsAt, size_of}
 use Rattle.dev_model.specs.Memory.{bytes_noted}
 use Rattle.dev_model.specs.declared.record.Kept.{Kept}
@@ -67,13 +67,13 @@ module _ (calls : List Kept) (written : List ℕ) (room_calls room_bytes calls_c
         let count : length calls_after ≡ length calls + 1 = ap length calls_are ∙ length-append calls (c ∷ []) in
         record {
           within = subst (λ (l : List Kept). AreWithin (length written_after) l) (sym calls_are)
-            (AreWithin-push (length written) (length written_after) calls c (omega arith) sound.within (subst (λ (n : ℕ). IsWithin n c) (sym size) within));
+              (AreWithin-push (length written) (length written_after) calls c (omega arith) sound.within (subst (λ (n : ℕ). IsWithin n c) (sym size) within));
           calls_fit = omega arith;
           bytes_fit = omega arith;
           laid =
-            let all : AreLaid 0 (calls ++ c ∷ []) (length written + size_of c) = AreLaid-push 0 (length written) calls c sound.laid begins in
-            let end : length written + size_of c ≡ length written_after = omega (arith, size_is) in
-            subst (λ (l : List Kept). AreLaid 0 l (length written_after)) (sym calls_are) (subst (λ (n : ℕ). AreLaid 0 (calls ++ c ∷ []) n) end all);
+              let all : AreLaid 0 (calls ++ c ∷ []) (length written + size_of c) = AreLaid-push 0 (length written) calls c sound.laid begins in
+              let end : length written + size_of c ≡ length written_after = omega (arith, size_is) in
+              subst (λ (l : List Kept). AreLaid 0 l (length written_after)) (sym calls_are) (subst (λ (n : ℕ). AreLaid 0 (calls ++ c ∷ []) n) end all);
           bytes_are = ap bytes_noted entries-after ∙ noted ∙ omega (arith, sound.bytes_are);
           calls_taken = omega (arith, sound.calls_taken);
           bytes_taken = omega (arith, sound.bytes_taken);
@@ -83,7 +83,7 @@ module _ (calls : List Kept) (written : List ℕ) (room_calls room_bytes calls_c
     pub noted-after : (now : Noted) (e : Call) → entry_of (written ++ more) c ≡ e
         → (let before : Noted = record { past = entries_onto [] calls written; room_calls = room_calls; room_bytes = room_bytes } in before ≡ now)
         → (let after : Noted = record { past = entries_onto [] calls_after written_after; room_calls = room_calls; room_bytes = room_bytes } in
-           let more_noted : Noted = record { past = e ∷ now.past; room_calls = now.room_calls; room_bytes = now.room_bytes } in after ≡ more_noted)
+        let more_noted : Noted = record { past = e ∷ now.past; room_calls = now.room_calls; room_bytes = now.room_bytes } in after ≡ more_noted)
     noted-after now e is view_is = λ j. record {
       past = (entries-after ∙ (λ k. is k ∷ (view_is k).past)) j;
       room_calls = (view_is j).room_calls;

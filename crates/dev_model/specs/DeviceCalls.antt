@@ -1,6 +1,6 @@
 -- Which calls of a device succeeded, and when.
 use Rattle.std.specs.Prelude.{◌≡◌, ℕ, ◌+◌, List, [], ◌∷◌, ◌++◌, length, Option, Some}
-use Rattle.dev_model.specs.Story.{Call, Read, Write, Sync, FailedWrite, FailedCall, Calls, Story, clock_of, after}
+use Rattle.dev_model.specs.Story.{Read, Write, Sync, FailedWrite, FailedCall, Calls, Story, clock_of, after}
 use Rattle.dev_model.specs.declared.calls.DeviceCall.{DeviceCall}
 use Rattle.dev_model.specs.declared.calls.DeviceAct.{DeviceAct}
 use Rattle.dev_model.specs.declared.calls.DeviceAct.TheVariants.{ReadAt, WriteAt, SyncAll}

@@ -142,4 +142,3 @@ slice_index-zeros n i = at n i
     at zero i = refl
     at (suc n) zero = refl
     at (suc n) (suc i) = at n i
-

@@ -1,6 +1,6 @@
 -- What holds at each moment of a run of calls, and where these calls read and write.
-use Rattle.std.specs.Prelude.{◌≡◌, ℕ, ◌≤◌, List, [], ◌∷◌, Option, Some}
-use Rattle.dev_model.specs.Story.{Bytes, Call, Read, Write, Sync, FailedWrite, FailedCall, Calls, Story, clock_of, after, bytes_of, IsOutside, IsSettled, IsSpared, IsImage}
+use Rattle.std.specs.Prelude.{◌≡◌, ℕ, ◌≤◌, [], ◌∷◌, Option, Some}
+use Rattle.dev_model.specs.Story.{Bytes, Read, Write, Sync, FailedWrite, FailedCall, Calls, Story, clock_of, after, bytes_of, IsOutside, IsSettled, IsSpared, IsImage}
 
 -- each image of each moment from a clock value on has P
 abbrev pub EachMoment : ℕ → Story → (ℕ → Bytes → Type 0) → Type 0

@@ -1,5 +1,5 @@
 -- What has happened on a device, what is read there now, and what a crash may leave of it.
-use Rattle.std.specs.Prelude.{◌≡◌, ◌⊎◌, ℕ, ◌+◌, ◌-◌, ◌<◌, ◌≤◌, List, [], ◌∷◌, length, drop, Option, Some, None, zero, suc, Result, Ok, Err, if◌then◌else◌, ◌&&◌, nat_le, nat_lt, slice_index, option_map}
+use Rattle.std.specs.Prelude.{◌≡◌, ◌⊎◌, ℕ, ◌+◌, ◌-◌, ◌<◌, ◌≤◌, List, [], ◌∷◌, length, drop, Option, Some, zero, suc, Result, Ok, Err, if◌then◌else◌, ◌&&◌, nat_le, nat_lt, slice_index, option_map}
 use Rattle.std.specs.Ordering.{nat_cmp, MatchOrdering}
 
 -- the byte at each place

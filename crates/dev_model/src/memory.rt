@@ -49,13 +49,13 @@ impl Model for MemDevice {
     ghost Value = { MemoryState };
 
     ghost view = { λ d. record {
-        pages = d.pages;
-        start = d.start.items;
-        past = with_missed d.missed d.kept.past;
-        room_calls = d.kept.room_calls;
-        room_bytes = d.kept.room_bytes;
-        fail = d.fail.items;
-        faults = d.faults;
+      pages = d.pages;
+      start = d.start.items;
+      past = with_missed d.missed d.kept.past;
+      room_calls = d.kept.room_calls;
+      room_bytes = d.kept.room_bytes;
+      fail = d.fail.items;
+      faults = d.faults;
     } };
 
     ghost invariant = { λ d. IsSoundMemory d.pages d.start.items d.bytes.items d.kept.past d.kept.room_calls d.missed };
@@ -65,15 +65,21 @@ impl MemDevice {
     /// A device of zero bytes. The calls whose numbers, from 1, stand in `fail` fail, and so do those past
     /// the room for `calls` calls and for `bytes` written bytes.
     #[tactic(auto, unfolding(crate::specs::Memory::zeros))]
-    pub fn new(alloc: Global, pages: u32, calls: u32, bytes: usize, fail: Vec<u64>) -> Result<MemDevice, AllocError>
+    pub fn new(
+        alloc: Global,
+        pages: u32,
+        calls: u32,
+        bytes: usize,
+        fail: Vec<u64>,
+    ) -> Result<MemDevice, AllocError>
         ensures { IfOk result (λ d. d ≡ record {
-            pages = pages;
-            start = zeros (pages * 4096);
-            past = [];
-            room_calls = calls;
-            room_bytes = bytes;
-            fail = fail.items;
-            faults = 0;
+          pages = pages;
+          start = zeros (pages * 4096);
+          past = [];
+          room_calls = calls;
+          room_bytes = bytes;
+          fail = fail.items;
+          faults = 0;
         }) }
     {
         let start = vec![in alloc; 0u8; pages as usize * 4096]?;
@@ -334,3 +340,6 @@ fn write_part(bytes: &mut [u8], at: usize, new: &[u8])
 {
     bytes[at..at + new.len()].copy_from_slice(new);
 }
+
+#[cfg(test)]
+mod tests;

@@ -40,7 +40,11 @@ impl Model for CallRecord {
 }
 
 impl CallRecord {
-    pub fn new(alloc: Global, room_calls: usize, room_bytes: usize) -> Result<CallRecord, AllocError>
+    pub fn new(
+        alloc: Global,
+        room_calls: usize,
+        room_bytes: usize,
+    ) -> Result<CallRecord, AllocError>
         ensures { IfOk result (λ r. r ≡ record { past = []; room_calls = room_calls; room_bytes = room_bytes }) }
     {
         Ok(CallRecord {
@@ -127,7 +131,14 @@ impl CallRecord {
         ensures { self.new ≡ record self.old { past = Write at bytes.now ∷ self.old.past } }
     {
         let from = self.written.len();
-        push_within(&mut self.calls, Kept::Write { at, from, count: bytes.len() });
+        push_within(
+            &mut self.calls,
+            Kept::Write {
+                at,
+                from,
+                count: bytes.len(),
+            },
+        );
         extend_within(&mut self.written, bytes);
     }
 
@@ -137,7 +148,14 @@ impl CallRecord {
         ensures { self.new ≡ record self.old { past = FailedWrite at bytes.now ∷ self.old.past } }
     {
         let from = self.written.len();
-        push_within(&mut self.calls, Kept::FailedWrite { at, from, count: bytes.len() });
+        push_within(
+            &mut self.calls,
+            Kept::FailedWrite {
+                at,
+                from,
+                count: bytes.len(),
+            },
+        );
         extend_within(&mut self.written, bytes);
     }
 }
@@ -148,7 +166,16 @@ fn poke_call(call: Kept, written: &mut [u8], at: u64, byte: u8)
     ensures { written.new ≡ poked_in at byte call written.old }
 {
     match call {
-        Kept::Write { at: start, from, count } | Kept::FailedWrite { at: start, from, count } => {
+        Kept::Write {
+            at: start,
+            from,
+            count,
+        }
+        | Kept::FailedWrite {
+            at: start,
+            from,
+            count,
+        } => {
             if start <= at && at - start < count as u64 {
                 written[from + (at - start) as usize] = byte;
             }
@@ -203,7 +230,14 @@ fn tear_call(call: Kept, written: &[u8], torn: Torn, image: &mut [u8])
 }
 
 // Makes the image of a moment out of the bytes at the start, which stand in both buffers.
-fn replay_calls(calls: &[Kept], written: &[u8], moment: usize, torn: Torn, bytes: &mut [u8], image: &mut [u8])
+fn replay_calls(
+    calls: &[Kept],
+    written: &[u8],
+    moment: usize,
+    torn: Torn,
+    bytes: &mut [u8],
+    image: &mut [u8],
+)
     requires within { AreWithin (length written.now) calls.now }
     requires on_device { AreOnDevice (length bytes.old) (entries_onto [] calls.now written.now) }
     requires same { image.old ≡ bytes.old }

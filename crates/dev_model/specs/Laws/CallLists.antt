@@ -1,6 +1,6 @@
 -- Laws of the lists of calls that succeeded, and of the bytes at an earlier clock. No public contract needs them.
-use Rattle.std.proofs.Common.{◌≡◌, ℕ, zero, suc, ◌+◌, ◌-◌, ◌≤◌, List, [], ◌∷◌, ◌++◌, length, drop, Option, Some, Result, Ok, Err, refl, sym, ◌∙◌, ap, subst, arith, inl, inr, append-nil, append_assoc}
-use Rattle.dev_model.specs.Story.{Call, Read, Write, Sync, FailedWrite, FailedCall, Calls, Story, clock_of, with_call, after, bytes_of, bytes_after, bytes_at, noted, HasChangedNothing, HasFailed, HasStoppedIn, Did}
+use Rattle.std.proofs.Common.{◌≡◌, ℕ, suc, ◌+◌, ◌-◌, ◌≤◌, List, [], ◌∷◌, ◌++◌, length, drop, Option, Some, Result, Ok, Err, refl, sym, ◌∙◌, ap, subst, arith, inl, inr, append-nil, append_assoc}
+use Rattle.dev_model.specs.Story.{Call, Read, Write, Sync, FailedWrite, FailedCall, Calls, Story, clock_of, with_call, after, bytes_of, bytes_after, bytes_at, HasChangedNothing, HasFailed, HasStoppedIn, Did}
 use Rattle.dev_model.specs.DeviceCalls.{made_at, ok_calls, StopsWithin}
 use Rattle.dev_model.specs.declared.calls.DeviceCall.{DeviceCall}
 use Rattle.dev_model.specs.declared.calls.DeviceAct.TheVariants.{ReadAt, WriteAt, SyncAll}

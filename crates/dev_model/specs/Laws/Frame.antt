@@ -1,11 +1,11 @@
 -- The frame rule: what a run of calls leaves alone. No public contract needs it.
-use Rattle.std.proofs.Common.{◌≡◌, ◌⊎◌, inl, inr, ℕ, ◌+◌, ◌-◌, ◌<◌, ◌≤◌, List, [], ◌∷◌, ◌++◌, length, Option, Some, None, Result, Ok, Err, refl, sym, ◌∙◌, ap, subst, arith, ⊎_elim}
+use Rattle.std.proofs.Common.{◌≡◌, inl, inr, ℕ, ◌+◌, ◌≤◌, [], ◌∷◌, ◌++◌, Option, Some, Result, Ok, Err, refl, sym, ◌∙◌, ap, subst, arith, ⊎_elim}
 use Rattle.std.proofs.lemmas.Option.{same_Some}
-use Rattle.dev_model.specs.Story.{Bytes, Call, Read, Write, Sync, FailedWrite, FailedCall, Calls, Story, clock_of, with_call, after, bytes_of, noted, HasChangedNothing, HasFailed, HasStoppedIn, Did, IsOutside, IsReadable, IsSettled, IsSpared, IsImageNow, IsImageDuring, WhereTold}
+use Rattle.dev_model.specs.Story.{Bytes, Call, Read, Write, Sync, FailedWrite, FailedCall, Calls, Story, clock_of, with_call, after, bytes_of, HasFailed, HasStoppedIn, Did, IsOutside, IsSettled, IsSpared, WhereTold}
 use Rattle.dev_model.specs.Moments.{EachMoment, LeavesOnly, AreSpared, IsImageAmid, WritesWithin}
 use Rattle.dev_model.specs.Laws.Ranges.{patched-outside}
-use Rattle.dev_model.specs.Laws.Images.{IsReadable-settled, IsImageNow-during}
-use Rattle.dev_model.specs.Laws.Runs.{During, LeavesOnly-calls, EachMoment-after, EachMoment-start, after-append}
+use Rattle.dev_model.specs.Laws.Images.{IsReadable-settled}
+use Rattle.dev_model.specs.Laws.Runs.{During, EachMoment-after, EachMoment-start, after-append}
 use Rattle.dev_model.specs.Laws.Plans.{all_noted-told, LeavesOnly-did}
 
 settled_with : (s : Story) (call : Call) (i : ℕ) → IsSpared call i → IsSettled s.past i → IsSettled (with_call s call).past i
@@ -129,7 +129,6 @@ LeavesOnly-beside places reading at count s now P part within outside run =
       each = λ m le_from le_to image is. (run.each m le_from le_to image is, stays.each m le_from le_to image is);
     }
 
-
 -- a call that failed touches no place that it would have spared
 failed_within : (at count : ℕ) (s : Story) (call : Call) (now : Option Story) → ((i : ℕ) → IsOutside at count i → IsSpared call i) → HasFailed call (Some s) now → WritesWithin at count s now
 failed_within at count s (Read from size) now spared (inl told) = record { calls = FailedCall ∷ []; told = told; spared = λ i out. (tt, tt) }
@@ -170,6 +169,6 @@ LeavesOnly-amid s calls old now r told did =
     amid t (call ∷ more) still bytes = (
       λ image is i spared settled. is i (still i spared settled).0.0 (still i spared settled).1 ∙ bytes i spared settled,
       amid (with_call t call) more
-      (λ i spared settled. ((still i spared settled).0.1, settled_with t call i (still i spared settled).0.0 (still i spared settled).1))
-      (λ i spared settled. bytes_with t call i (still i spared settled).0.0 ∙ bytes i spared settled),
+          (λ i spared settled. ((still i spared settled).0.1, settled_with t call i (still i spared settled).0.0 (still i spared settled).1))
+          (λ i spared settled. bytes_with t call i (still i spared settled).0.0 ∙ bytes i spared settled),
     )

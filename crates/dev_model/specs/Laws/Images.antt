@@ -1,12 +1,11 @@
 -- Laws of images, and of what is settled. No public contract needs them.
-use Rattle.std.proofs.Common.{append_assoc, ◌≡◌, ◌⊎◌, inl, inr, ⊎_elim, ℕ, ◌+◌, ◌-◌, ◌<◌, ◌≤◌, List, [], ◌∷◌, ◌++◌, length, Option, Some, None, Result, Ok, Err, OnOk, OnErr, refl, sym, ◌∙◌, ap, subst, arith, zero, suc}
-use Rattle.std.specs.Ordering.{nat_cmp, MatchOrdering}
+use Rattle.std.proofs.Common.{◌≡◌, inr, ℕ, ◌+◌, ◌<◌, ◌≤◌, [], ◌∷◌, length, refl, sym, subst, arith, suc}
+use Rattle.std.specs.Ordering.{MatchOrdering}
 use Rattle.std.specs.Cmp.{nat_cmp_is}
 use Rattle.std.specs.declared.cmp.Ordering.{Ordering}
 use Rattle.std.specs.declared.cmp.Ordering.TheVariants.{Less, Equal, Greater}
-use Rattle.std.proofs.lemmas.Option.{same_Some}
-use Rattle.dev_model.specs.Story.{Bytes, Call, Read, Write, Sync, FailedWrite, FailedCall, Past, Calls, Story, clock_of, with_call, bytes_of, bytes_after, bytes_at, after, noted, all_noted, WhereTold, IsImage, IsImageAt, IsImageDuring, IsImageNow, IsSpared, HasChangedNothing, HasFailed, HasStoppedIn, Tells, Did, IsSettled, IsReadable, IsReadFrom, IsCalmAt, patched, part, IsOutside, IsInside}
-use Rattle.dev_model.specs.Laws.Ranges.{patched-outside, patched-inside, part-same}
+use Rattle.dev_model.specs.Story.{Bytes, Call, Read, Write, Sync, FailedWrite, FailedCall, Past, Calls, Story, clock_of, with_call, bytes_of, after, IsImage, IsImageAt, IsImageDuring, IsImageNow, IsSettled, IsReadable, IsCalmAt, part}
+use Rattle.dev_model.specs.Laws.Ranges.{part-same}
 
 -- images of earlier moments stay as they were
 pub IsImage-earlier : (s : Story) (call : Call) (m : ℕ) (image : Bytes) → m < clock_of s → IsImage (with_call s call) m image → IsImage s m image

@@ -1,14 +1,9 @@
 -- Laws of `Did` and `Ticks`: calls that were planned, of which one may have failed. No public contract needs them.
-use Rattle.std.proofs.Common.{append_assoc, ◌≡◌, ◌⊎◌, inl, inr, ⊎_elim, ℕ, ◌+◌, ◌-◌, ◌<◌, ◌≤◌, List, [], ◌∷◌, ◌++◌, length, Option, Some, None, Result, Ok, Err, OnOk, OnErr, refl, sym, ◌∙◌, ap, subst, arith, zero, suc}
-use Rattle.std.specs.Ordering.{nat_cmp, MatchOrdering}
-use Rattle.std.specs.Cmp.{nat_cmp_is}
-use Rattle.std.specs.declared.cmp.Ordering.{Ordering}
-use Rattle.std.specs.declared.cmp.Ordering.TheVariants.{Less, Equal, Greater}
-use Rattle.std.proofs.lemmas.Option.{same_Some}
-use Rattle.dev_model.specs.Story.{Bytes, Call, Read, Write, Sync, FailedWrite, FailedCall, Past, Calls, Story, clock_of, with_call, bytes_of, bytes_after, bytes_at, after, noted, all_noted, WhereTold, IsImage, IsImageAt, IsImageDuring, IsImageNow, IsSpared, HasChangedNothing, HasFailed, HasStoppedIn, Tells, Did, IsSettled, IsReadable, IsReadFrom, IsCalmAt, patched, part, IsOutside, IsInside}
-use Rattle.dev_model.specs.Laws.Ranges.{patched-outside, patched-inside, part-same}
+use Rattle.std.proofs.Common.{append_assoc, ◌≡◌, inl, inr, ℕ, ◌+◌, List, [], ◌∷◌, ◌++◌, Option, Some, None, Result, Ok, Err, refl, sym, ◌∙◌, ap, subst, arith}
+use Rattle.dev_model.specs.Story.{Bytes, Call, Read, Write, Sync, FailedWrite, FailedCall, Calls, Story, with_call, bytes_of, after, noted, all_noted, IsImageDuring, IsImageNow, HasChangedNothing, HasFailed, HasStoppedIn, Tells, Did}
+use Rattle.dev_model.specs.Laws.Ranges.{patched-outside}
 use Rattle.dev_model.specs.Story.{Ticks}
-use Rattle.dev_model.specs.Moments.{LeavesOnly, AreSpared, IsImageAmid, WritesWithin}
+use Rattle.dev_model.specs.Moments.{LeavesOnly}
 use Rattle.dev_model.specs.Laws.Images.{IsReadable-settled}
 use Rattle.dev_model.specs.Laws.Runs.{During, During-append, During-last, after-append, LeavesOnly-calls, LeavesOnly-failed}
 
@@ -40,6 +35,10 @@ pub LeavesOnly-did : {T E : Type 0} (s : Story) (calls : Calls) (P : Bytes → T
 LeavesOnly-did s calls P old new (Ok x) told did during now = LeavesOnly-calls s calls P new (did ∙ all_noted-told s calls old told) during now
 LeavesOnly-did s calls P old new (Err e) told did during now = stopped s [] calls P old new told did during
 
+-- a device that tells nothing has no story
+pub no_story : {P : Type 0} (s : Story) → (let none : Option Story = None in none ≡ Some s) → P
+no_story s is = cc
+
 -- a device that tells nothing goes on telling nothing
 pub Did-untold : {T E : Type 0} (calls : Calls) (new : Option Story) (result : Result T E) → Did calls None new result → new ≡ None
 Did-untold calls new (Ok x) did = did ∙ all_none calls
@@ -52,6 +51,7 @@ Did-untold calls new (Err e) did = none calls new did
     nothing : (new : Option Story) → HasChangedNothing None new → new ≡ None
     nothing new (inl is) = is
     nothing new (inr is) = is
+
     failed_none : (call : Call) (new : Option Story) → HasFailed call None new → new ≡ None
     failed_none (Write at bytes) new (inl is) = is
     failed_none (Write at bytes) new (inr is) = nothing new is
@@ -59,6 +59,7 @@ Did-untold calls new (Err e) did = none calls new did
     failed_none Sync new is = nothing new is
     failed_none (FailedWrite at bytes) new is = absurd is
     failed_none FailedCall new is = absurd is
+
     none : (calls : Calls) (new : Option Story) → HasStoppedIn calls None new → new ≡ None
     none [] new is = absurd is
     none (call ∷ calls) new (inl is) = failed_none call new is
@@ -112,4 +113,3 @@ Ticks-then X Y E x m n old mid new (Err e) first second = (omega (arith, first, 
 
 pub Ticks-cut : (X Y E F : Type 0) (e : E) (f : F) (m n old new : ℕ) → Ticks {X = X} {E = E} m old new (Err e) → Ticks {X = Y} {E = F} (m + n) old new (Err f)
 Ticks-cut X Y E F e f m n old new ticks = (ticks.0, omega (arith, ticks.1))
-

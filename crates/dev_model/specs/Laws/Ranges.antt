@@ -1,7 +1,6 @@
 -- Laws of bytes, of their ranges and of what is written over them.
-use Rattle.std.proofs.Common.{◌≡◌, ◌⊎◌, inl, inr, ℕ, ◌+◌, ◌-◌, ◌<◌, ◌≤◌, List, [], ◌∷◌, ◌++◌, length, get_or, refl, sym, ◌∙◌, ap, arith, zero, suc, true, false, nat_le, nat_lt, ◌&&◌, cond, Bool}
+use Rattle.std.proofs.Common.{◌≡◌, ℕ, ◌+◌, ◌-◌, ◌<◌, ◌≤◌, List, [], ◌∷◌, length, get_or, refl, sym, ◌∙◌, ap, arith, zero, suc}
 use Rattle.std.proofs.lemmas.Bool.Decides.{nat_tests}
-use Rattle.std.proofs.lemmas.List.{same_lists}
 use Rattle.dev_model.specs.Story.{Bytes, Story, bytes_of, patched, part, IsOutside, IsInside, IsReadable, IsReadFrom}
 
 -- a write leaves the other bytes

@@ -1,12 +1,7 @@
 -- Laws of what holds at each moment of a run. No public contract needs them.
-use Rattle.std.proofs.Common.{append_assoc, ◌≡◌, ◌⊎◌, inl, inr, ⊎_elim, ℕ, ◌+◌, ◌-◌, ◌<◌, ◌≤◌, List, [], ◌∷◌, ◌++◌, length, Option, Some, None, Result, Ok, Err, OnOk, OnErr, refl, sym, ◌∙◌, ap, subst, arith, zero, suc}
-use Rattle.std.specs.Ordering.{nat_cmp, MatchOrdering}
-use Rattle.std.specs.Cmp.{nat_cmp_is}
-use Rattle.std.specs.declared.cmp.Ordering.{Ordering}
-use Rattle.std.specs.declared.cmp.Ordering.TheVariants.{Less, Equal, Greater}
+use Rattle.std.proofs.Common.{◌≡◌, ◌⊎◌, inl, inr, ⊎_elim, ℕ, ◌<◌, ◌≤◌, [], ◌∷◌, ◌++◌, Option, Some, refl, sym, ◌∙◌, ap, subst, arith, zero, suc}
 use Rattle.std.proofs.lemmas.Option.{same_Some}
-use Rattle.dev_model.specs.Story.{Bytes, Call, Read, Write, Sync, FailedWrite, FailedCall, Past, Calls, Story, clock_of, with_call, bytes_of, bytes_after, bytes_at, after, noted, all_noted, WhereTold, IsImage, IsImageAt, IsImageDuring, IsImageNow, IsSpared, HasChangedNothing, HasFailed, HasStoppedIn, Tells, Did, IsSettled, IsReadable, IsReadFrom, IsCalmAt, patched, part, IsOutside, IsInside}
-use Rattle.dev_model.specs.Laws.Ranges.{patched-outside, patched-inside, part-same}
+use Rattle.dev_model.specs.Story.{Bytes, Call, Read, Write, Sync, FailedWrite, FailedCall, Calls, Story, clock_of, with_call, after, noted, WhereTold, IsImage, IsImageDuring, IsImageNow, HasChangedNothing, HasFailed}
 use Rattle.dev_model.specs.Moments.{EachMoment, LeavesOnly}
 use Rattle.dev_model.specs.Laws.Images.{IsImage-earlier, IsImage-during, IsImage-now, IsImageNow-during, IsImage-older}
 
@@ -31,9 +26,9 @@ EachMoment-with_call from s call P before during now m le_from le_to image is =
     ⊎_elim
     (λ earlier. before m le_from (omega arith) image (IsImage-earlier s call m image earlier is))
     (λ e. ⊎_elim
-      (λ same. subst (λ (n : ℕ). P n image) (sym same) (during image (IsImage-during s call image (subst (λ (n : ℕ). IsImage (with_call s call) n image) same is))))
-      (λ last. subst (λ (n : ℕ). P n image) (sym last) (now image (IsImage-now (with_call s call) image (subst (λ (n : ℕ). IsImage (with_call s call) n image) last is))))
-      e)
+    (λ same. subst (λ (n : ℕ). P n image) (sym same) (during image (IsImage-during s call image (subst (λ (n : ℕ). IsImage (with_call s call) n image) same is))))
+    (λ last. subst (λ (n : ℕ). P n image) (sym last) (now image (IsImage-now (with_call s call) image (subst (λ (n : ℕ). IsImage (with_call s call) n image) last is))))
+    e)
     (moment_of m (clock_of s) le_to)
 
 -- before the first call

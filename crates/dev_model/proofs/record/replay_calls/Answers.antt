@@ -1,9 +1,9 @@
-use Rattle.std.proofs.Common.{◌≡◌, ℕ, ◌+◌, ◌<◌, ◌≤◌, [], List, length, get_or, take, slice_index, sym, ◌∙◌, ap, subst, arith}
+use Rattle.std.proofs.Common.{◌≡◌, ℕ, ◌<◌, ◌≤◌, [], length, get_or, take, sym, ◌∙◌, ap, subst, arith}
 use Rattle.std.proofs.lemmas.List.{take_all}
 use Rattle.dev_model.specs.Story.{Bytes, bytes_after}
 use Rattle.dev_model.specs.Memory.{place}
 use Rattle.dev_model.specs.Inside.{entries_onto, entry_of}
-use Rattle.dev_model.specs.TornImages.{image_at, image_after, image_during}
+use Rattle.dev_model.specs.TornImages.{image_after, image_during}
 use Rattle.dev_model.specs.Inside.{bytes_with, image_with, IsOnDevice}
 use Rattle.dev_model.specs.declared.record.Kept.TheVariants as stored
 use Rattle.dev_model.proofs.Replay.{within_at, on_device_at, bytes_more, image_more, image_under_way, image_at-now}
@@ -28,9 +28,9 @@ loop-index-preserved c =
     let within : index < length calls = omega arith in
     record {
       bytes = λ i. c.replay_call.ensures.bytes i ∙ ap (λ b. bytes_with (entry_of c.args.written.now (get_or calls index (stored.Read 0 0))) b i) bytes_are
-        ∙ ap (λ (b : Bytes). b i) (sym (bytes_more calls c.args.written.now index (stored.Read 0 0) within start));
+          ∙ ap (λ (b : Bytes). b i) (sym (bytes_more calls c.args.written.now index (stored.Read 0 0) within start));
       image = λ i. c.replay_call.ensures.image i ∙ (λ j. image_with c.args.torn (entry_of c.args.written.now (get_or calls index (stored.Read 0 0))) (bytes_are j) (image_is j) i)
-        ∙ ap (λ (b : Bytes). b i) (sym (image_more calls c.args.written.now index (stored.Read 0 0) within c.args.torn start));
+          ∙ ap (λ (b : Bytes). b i) (sym (image_more calls c.args.written.now index (stored.Read 0 0) within c.args.torn start));
     }
 
 pub tear_call-requires-clause-within : goal.tear_call-requires-clause-within
@@ -45,7 +45,7 @@ pub returns-then-moment-calls : goal.returns-then-moment-calls
 returns-then-moment-calls c i =
     let all : c.loop-index.index ≡ c.args.moment = omega arith in
     let image_is : place c.loop-index.image ≡ image_after c.args.torn (place c.args.image.now) (entries_onto [] (take c.args.moment c.args.calls.now) c.args.written.now) =
-      (λ j k. c.loop-index.invariant.image k j) ∙ (λ j. image_after c.args.torn (place (sym c.requires.same j)) (entries_onto [] (take (all j) c.args.calls.now) c.args.written.now)) in
+    (λ j k. c.loop-index.invariant.image k j) ∙ (λ j. image_after c.args.torn (place (sym c.requires.same j)) (entries_onto [] (take (all j) c.args.calls.now) c.args.written.now)) in
     c.tear_call.ensures i ∙ ap (λ b. image_during c.args.torn (entry_of c.args.written.now (get_or c.args.calls.now c.args.moment (stored.Read 0 0))) b i) image_is
     ∙ ap (λ (b : Bytes). b i) (sym (image_under_way c.args.calls.now c.args.written.now c.args.moment (stored.Read 0 0) c.if-moment-calls.true c.args.torn (place c.args.image.now)))
 

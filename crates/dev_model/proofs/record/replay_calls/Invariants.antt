@@ -1,4 +1,4 @@
-use Rattle.std.proofs.Common.{◌≡◌, ℕ, [], take, slice_index, length}
+use Rattle.std.proofs.Common.{◌≡◌, ℕ, [], take, slice_index}
 use Rattle.dev_model.specs.Story.{bytes_after}
 use Rattle.dev_model.specs.Memory.{place}
 use Rattle.dev_model.specs.Inside.{entries_onto}

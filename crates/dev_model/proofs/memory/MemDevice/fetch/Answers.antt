@@ -1,8 +1,6 @@
-use Rattle.std.proofs.Common.{◌≡◌, ◌⊎◌, inl, inr, ℕ, ◌+◌, ◌-◌, ◌*◌, ◌^◌, ◌<◌, ◌≤◌, List, [], ◌∷◌, length, slice_index, refl, sym, ◌∙◌, ap, arith}
-use Rattle.std.proofs.lemmas.Bool.Decides.{nat_tests}
-use Rattle.dev_model.specs.Story.{Read, Write, Sync, FailedWrite, FailedCall, bytes_after}
-use Rattle.dev_model.specs.Memory.{HasCallLeft, place}
-use Rattle.dev_model.proofs.MemoryLemmas.{call_count, room_calls_are, room_bytes_are, noted_are, none_missed, call_left, seen_after, sound_after, bytes_are}
+use Rattle.std.proofs.Common.{ℕ, ◌+◌, ◌∷◌, slice_index, ◌∙◌, ap}
+use Rattle.dev_model.specs.Story.{Read}
+use Rattle.dev_model.proofs.MemoryLemmas.{call_left, seen_after, sound_after, bytes_are}
 use Rattle.dev_model.proofs.memory.MemDevice.fetch.Goals as goal
 
 pub note_read-requires : goal.note_read-requires

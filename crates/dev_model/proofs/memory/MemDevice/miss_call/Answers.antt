@@ -1,9 +1,8 @@
-use Rattle.std.proofs.Common.{◌≡◌, ◌⊎◌, inl, inr, ⊎_elim, ℕ, suc, ◌+◌, ◌-◌, ◌*◌, ◌^◌, ◌<◌, ◌≤◌, List, [], ◌∷◌, length, slice_index, refl, sym, ◌∙◌, ap, arith}
-use Rattle.std.proofs.lemmas.Bool.Decides.{nat_tests}
-use Rattle.dev_model.specs.Story.{Read, Write, Sync, FailedWrite, FailedCall, bytes_after}
+use Rattle.std.proofs.Common.{◌≡◌, ◌⊎◌, inr, ⊎_elim, ℕ, suc, ◌+◌, ◌≤◌, ◌∷◌, length, ◌∙◌, ap, arith}
+use Rattle.dev_model.specs.Story.{FailedCall}
 use Rattle.dev_model.specs.Memory.{MemoryState}
 use Rattle.dev_model.specs.Inside.{with_missed}
-use Rattle.dev_model.proofs.MemoryLemmas.{call_count, room_calls_are, room_bytes_are, noted_are, none_missed, call_left, seen_after, sound_after}
+use Rattle.dev_model.proofs.MemoryLemmas.{call_count, room_calls_are}
 use Rattle.dev_model.proofs.memory.MemDevice.miss_call.Goals as goal
 
 pub overflow_add-self : goal.overflow_add-self
@@ -16,7 +15,7 @@ invariant_of-self c =
     let f = c.self.inside in
     let sound = c.self.invariant in
     let full : (f.missed + 1 ≡ 0) ⊎ (f.kept.room_calls ≤ length f.kept.past) =
-      inr (⊎_elim (λ none. omega (arith, none, call_count f.pages f.start.items f.bytes.items f.kept f.missed f.fail.items f.faults c.self.invariant c.args.self.now c.self.view_is, room_calls_are f.pages f.start.items f.bytes.items f.kept f.missed f.fail.items f.faults c.self.invariant c.args.self.now c.self.view_is, c.requires.full)) (λ full. full) sound.missed_past_room) in
+    inr (⊎_elim (λ none. omega (arith, none, call_count f.pages f.start.items f.bytes.items f.kept f.missed f.fail.items f.faults c.self.invariant c.args.self.now c.self.view_is, room_calls_are f.pages f.start.items f.bytes.items f.kept f.missed f.fail.items f.faults c.self.invariant c.args.self.now c.self.view_is, c.requires.full)) (λ full. full) sound.missed_past_room) in
     record {
       start_length = sound.start_length;
       now_length = sound.now_length;

@@ -1,5 +1,4 @@
-use Rattle.std.proofs.Common.{◌≡◌, ℕ, ◌*◌, ◌<◌, map, slice_set, sym, ◌∙◌, ap, subst, arith}
-use Rattle.dev_model.specs.Story.{Past}
+use Rattle.std.proofs.Common.{◌≡◌, ◌*◌, ◌<◌, map, slice_set, sym, ◌∙◌, ap, subst, arith}
 use Rattle.dev_model.specs.Memory.{MemoryState, poked_call}
 use Rattle.dev_model.specs.Inside.{Noted, IsSoundMemory, with_missed}
 use Rattle.dev_model.proofs.MemoryLemmas.{pages_are}
@@ -22,7 +21,7 @@ returns c =
     let f = c.self.inside in
     let is = c.self.view_is in
     let past = ap (λ (n : Noted). with_missed f.missed n.past) c.poke.ensures ∙ with_missed-poked c.args.at c.args.byte f.missed f.kept.past
-      ∙ ap (λ (d : MemoryState). map (poked_call c.args.at c.args.byte) d.past) is in
+    ∙ ap (λ (d : MemoryState). map (poked_call c.args.at c.args.byte) d.past) is in
     λ j. record {
       pages = (is j).pages;
       start = slice_set (is j).start c.args.at c.args.byte;

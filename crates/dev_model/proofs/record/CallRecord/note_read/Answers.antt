@@ -1,10 +1,8 @@
-use Rattle.std.proofs.Common.{◌≡◌, ◌+◌, ◌<◌, ◌≤◌, List, ℕ, [], ◌∷◌, ◌++◌, length, refl, sym, ◌∙◌, ap, arith, vec_len, vec_capacity}
+use Rattle.std.proofs.Common.{[], length, refl, sym, ap, arith, vec_capacity}
 use Rattle.std.proofs.lemmas.List.{append-nil}
-use Rattle.dev_model.specs.Story.{Read, Write, Sync, FailedWrite, FailedCall}
-use Rattle.dev_model.specs.Memory.{bytes_noted}
-use Rattle.dev_model.specs.Inside.{entries_onto, entry_of}
+use Rattle.dev_model.specs.Story.{Read}
 use Rattle.dev_model.specs.declared.record.Kept.TheVariants as stored
-use Rattle.dev_model.proofs.RecordLemmas.{length-entries, sound-after, noted-after, bytes_from-last}
+use Rattle.dev_model.proofs.RecordLemmas.{length-entries, sound-after, noted-after}
 use Rattle.dev_model.proofs.record.CallRecord.note_read.Goals as goal
 
 pub push_within-requires : goal.push_within-requires

@@ -1,8 +1,7 @@
-use Rattle.std.proofs.Common.{◌≡◌, ◌+◌, ◌<◌, ◌≤◌, List, ℕ, [], ◌∷◌, ◌++◌, length, refl, sym, ◌∙◌, ap, arith, vec_len, vec_capacity}
-use Rattle.std.proofs.lemmas.List.{append-nil}
-use Rattle.dev_model.specs.Story.{Read, Write, Sync, FailedWrite, FailedCall}
+use Rattle.std.proofs.Common.{◌≡◌, ◌+◌, List, ℕ, [], length, refl, ◌∙◌, ap, arith, vec_capacity}
+use Rattle.dev_model.specs.Story.{Write}
 use Rattle.dev_model.specs.Memory.{bytes_noted}
-use Rattle.dev_model.specs.Inside.{entries_onto, entry_of}
+use Rattle.dev_model.specs.Inside.{entries_onto}
 use Rattle.dev_model.specs.declared.record.Kept.TheVariants as stored
 use Rattle.dev_model.proofs.RecordLemmas.{length-entries, sound-after, noted-after, bytes_from-last}
 use Rattle.dev_model.proofs.record.CallRecord.note_write.Goals as goal

@@ -20,6 +20,6 @@ returns c =
     let size : length c.poke_calls.new.written ≡ f.written.len = c.poke_calls.auto.written ∙ c.deref_mut.ensures.len in
     let written_is = with_items_is f.written c.poke_calls.new.written size ∙ c.poke_calls.ensures ∙ (λ j. poked_in_all c.args.at c.args.byte (c.deref.ensures.value j) (c.deref_mut.ensures.value j)) in
     let past = ap (entries_onto [] f.calls.items) written_is
-      ∙ entries_onto-poked c.args.at c.args.byte [] f.calls.items 0 (length f.written.items) f.written.items c.self.invariant.laid c.self.invariant.within
-      ∙ ap (λ (n : Noted). map (poked_call c.args.at c.args.byte) n.past) is in
+    ∙ entries_onto-poked c.args.at c.args.byte [] f.calls.items 0 (length f.written.items) f.written.items c.self.invariant.laid c.self.invariant.within
+    ∙ ap (λ (n : Noted). map (poked_call c.args.at c.args.byte) n.past) is in
     λ j. record { past = past j; room_calls = (is j).room_calls; room_bytes = (is j).room_bytes }
