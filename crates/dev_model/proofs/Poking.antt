@@ -5,7 +5,7 @@ use Rattle.std.proofs.Math.Seq.{take-set-lt}
 use Rattle.std.proofs.lemmas.Bool.Decides.{nat_tests}
 use Rattle.dev_model.specs.Story.{Bytes, Call, Read, Write, Sync, FailedWrite, FailedCall, Past, patched, bytes_after, IsInside, IsOutside}
 use Rattle.dev_model.specs.Memory.{place, bytes_noted, poked_list, poked_call}
-use Rattle.dev_model.specs.Inside.{bytes_from, entry_of, entries_onto, IsWithin, AreWithin, size_of, BeginsAt, AreLaid, poked_in, poked_in_all, AreOnDevice, with_missed, IsSound, IsSoundMemory}
+use Rattle.dev_model.specs.Inside.{bytes_from, call_of, calls_onto, IsWithin, AreWithin, size_of, BeginsAt, AreLaid, poked_in, poked_in_all, AreOnDevice, with_missed, IsSound, IsSoundMemory}
 use Rattle.dev_model.specs.Laws.Ranges.{patched-outside, patched-inside}
 use Rattle.dev_model.specs.declared.record.Kept.{Kept}
 use Rattle.dev_model.specs.declared.record.Kept.TheVariants as stored
@@ -59,7 +59,7 @@ module _ (at byte : ℕ) where
   behind_all (d ∷ calls) start end w from count laid le =
       behind_all calls (start + size_of d) end (poked_in at byte d w) from count laid.1 (omega arith) ∙ behind d start w from count laid.0 le
 
-  call_stays : (c : Kept) (calls : List Kept) (start end : ℕ) (w : List ℕ) → AreLaid start calls end → IsWithin start c → entry_of (poked_in_all at byte calls w) c ≡ entry_of w c
+  call_stays : (c : Kept) (calls : List Kept) (start end : ℕ) (w : List ℕ) → AreLaid start calls end → IsWithin start c → call_of (poked_in_all at byte calls w) c ≡ call_of w c
   call_stays (stored.Write a first size) calls start end w laid within = ap (Write a) (behind_all calls start end w first size laid within)
   call_stays (stored.FailedWrite a first size) calls start end w laid within = ap (FailedWrite a) (behind_all calls start end w first size laid within)
   call_stays (stored.Read a size) calls start end w laid within = refl
@@ -67,24 +67,24 @@ module _ (at byte : ℕ) where
   call_stays stored.Failed calls start end w laid within = refl
 
   -- the bytes of later calls stay
-  before_one : (c : Kept) (start p : ℕ) (w : List ℕ) → BeginsAt start c → p < start → entry_of (set w p byte) c ≡ entry_of w c
+  before_one : (c : Kept) (start p : ℕ) (w : List ℕ) → BeginsAt start c → p < start → call_of (set w p byte) c ≡ call_of w c
   before_one (stored.Write a first size) start p w begins lt = ap (λ (l : List ℕ). Write a (take size l)) (drop-set-lt first w p byte (omega (arith, begins)))
   before_one (stored.FailedWrite a first size) start p w begins lt = ap (λ (l : List ℕ). FailedWrite a (take size l)) (drop-set-lt first w p byte (omega (arith, begins)))
   before_one (stored.Read a size) start p w begins lt = refl
   before_one stored.Sync start p w begins lt = refl
   before_one stored.Failed start p w begins lt = refl
 
-  before : (earlier : Past) (calls : List Kept) (start end p : ℕ) (w : List ℕ) → AreLaid start calls end → p < start → entries_onto earlier calls (set w p byte) ≡ entries_onto earlier calls w
+  before : (earlier : Past) (calls : List Kept) (start end p : ℕ) (w : List ℕ) → AreLaid start calls end → p < start → calls_onto earlier calls (set w p byte) ≡ calls_onto earlier calls w
   before earlier [] start end p w laid lt = refl
   before earlier (c ∷ calls) start end p w laid lt =
-      ap (λ (e : Call). entries_onto (e ∷ earlier) calls (set w p byte)) (before_one c start p w laid.0 lt)
-      ∙ before (entry_of w c ∷ earlier) calls (start + size_of c) end p w laid.1 (omega arith)
+      ap (λ (e : Call). calls_onto (e ∷ earlier) calls (set w p byte)) (before_one c start p w laid.0 lt)
+      ∙ before (call_of w c ∷ earlier) calls (start + size_of c) end p w laid.1 (omega arith)
 
-  later_stay : (t : Bool) (earlier : Past) (calls : List Kept) (start end p : ℕ) (w : List ℕ) → AreLaid start calls end → (IsTrue t → p < start) → entries_onto earlier calls (cond t (set w p byte) w) ≡ entries_onto earlier calls w
+  later_stay : (t : Bool) (earlier : Past) (calls : List Kept) (start end p : ℕ) (w : List ℕ) → AreLaid start calls end → (IsTrue t → p < start) → calls_onto earlier calls (cond t (set w p byte) w) ≡ calls_onto earlier calls w
   later_stay true earlier calls start end p w laid lt = before earlier calls start end p w laid (lt refl)
   later_stay false earlier calls start end p w laid lt = refl
 
-  calls_stay : (c : Kept) (earlier : Past) (calls : List Kept) (start end : ℕ) (w : List ℕ) → BeginsAt start c → AreLaid (start + size_of c) calls end → entries_onto earlier calls (poked_in at byte c w) ≡ entries_onto earlier calls w
+  calls_stay : (c : Kept) (earlier : Past) (calls : List Kept) (start end : ℕ) (w : List ℕ) → BeginsAt start c → AreLaid (start + size_of c) calls end → calls_onto earlier calls (poked_in at byte c w) ≡ calls_onto earlier calls w
   calls_stay (stored.Write a first size) earlier calls start end w begins laid =
       later_stay (nat_le a at && nat_lt (at - a) size) earlier calls (start + size) end (first + (at - a)) w laid (λ is. omega (arith, begins, in_test a at size is))
   calls_stay (stored.FailedWrite a first size) earlier calls start end w begins laid =
@@ -104,7 +104,7 @@ module _ (at byte : ℕ) where
       own (nat_le a at && nat_lt (at - a) size) w (at - a) first size (λ is. in_test a at size is)
       ∙ ap (λ (n : ℕ). cond (nat_le a at && nat_lt (at - a) n) (set (bytes_from w first size) (at - a) byte) (bytes_from w first size)) (sym (length-bytes_from w first size within))
 
-  own_call : (c : Kept) (w : List ℕ) → IsWithin (length w) c → entry_of (poked_in at byte c w) c ≡ poked_call at byte (entry_of w c)
+  own_call : (c : Kept) (w : List ℕ) → IsWithin (length w) c → call_of (poked_in at byte c w) c ≡ poked_call at byte (call_of w c)
   own_call (stored.Write a first size) w within = ap (Write a) (own_list a first size w within)
   own_call (stored.FailedWrite a first size) w within = ap (FailedWrite a) (own_list a first size w within)
   own_call (stored.Read a size) w within = refl
@@ -119,17 +119,17 @@ module _ (at byte : ℕ) where
   ends_within stored.Failed start begins = tt
 
   -- each call that is kept is changed
-  pub entries_onto-poked : (earlier : Past) (calls : List Kept) (start end : ℕ) (w : List ℕ) → AreLaid start calls end → AreWithin (length w) calls
-      → entries_onto (map (poked_call at byte) earlier) calls (poked_in_all at byte calls w) ≡ map (poked_call at byte) (entries_onto earlier calls w)
-  entries_onto-poked earlier [] start end w laid within = refl
-  entries_onto-poked earlier (c ∷ calls) start end w laid within =
+  pub calls_onto-poked : (earlier : Past) (calls : List Kept) (start end : ℕ) (w : List ℕ) → AreLaid start calls end → AreWithin (length w) calls
+      → calls_onto (map (poked_call at byte) earlier) calls (poked_in_all at byte calls w) ≡ map (poked_call at byte) (calls_onto earlier calls w)
+  calls_onto-poked earlier [] start end w laid within = refl
+  calls_onto-poked earlier (c ∷ calls) start end w laid within =
       let w1 : List ℕ = poked_in at byte c w in
-      let own_is : entry_of (poked_in_all at byte calls w1) c ≡ poked_call at byte (entry_of w c) =
+      let own_is : call_of (poked_in_all at byte calls w1) c ≡ poked_call at byte (call_of w c) =
       call_stays c calls (start + size_of c) end w1 laid.1 (ends_within c start laid.0) ∙ own_call c w within.0 in
       let size : length w1 ≡ length w = length-poked_in c w in
-      ap (λ (e : Call). entries_onto (e ∷ map (poked_call at byte) earlier) calls (poked_in_all at byte calls w1)) own_is
-      ∙ entries_onto-poked (entry_of w c ∷ earlier) calls (start + size_of c) end w1 laid.1 (subst (λ (n : ℕ). AreWithin n calls) (sym size) within.1)
-      ∙ ap (map (poked_call at byte)) (calls_stay c (entry_of w c ∷ earlier) calls start end w laid.0 laid.1)
+      ap (λ (e : Call). calls_onto (e ∷ map (poked_call at byte) earlier) calls (poked_in_all at byte calls w1)) own_is
+      ∙ calls_onto-poked (call_of w c ∷ earlier) calls (start + size_of c) end w1 laid.1 (subst (λ (n : ℕ). AreWithin n calls) (sym size) within.1)
+      ∙ ap (map (poked_call at byte)) (calls_stay c (call_of w c ∷ earlier) calls start end w laid.0 laid.1)
 
   pub length-poked_list : (from : ℕ) (new : List ℕ) → length (poked_list at byte from new) ≡ length new
   length-poked_list from new = pick (nat_le from at && nat_lt (at - from) (length new))
@@ -242,7 +242,7 @@ module _ (at byte : ℕ) where
         calls_fit = sound.calls_fit;
         bytes_fit = omega (arith, size, sound.bytes_fit);
         laid = subst (λ (n : ℕ). AreLaid 0 calls n) (sym size) sound.laid;
-        bytes_are = ap bytes_noted (entries_onto-poked [] calls 0 (length w) w sound.laid sound.within) ∙ bytes_noted-poked (entries_onto [] calls w) ∙ sound.bytes_are ∙ sym size;
+        bytes_are = ap bytes_noted (calls_onto-poked [] calls 0 (length w) w sound.laid sound.within) ∙ bytes_noted-poked (calls_onto [] calls w) ∙ sound.bytes_are ∙ sym size;
         calls_taken = sound.calls_taken;
         bytes_taken = sound.bytes_taken;
       }

@@ -2,7 +2,7 @@
 use Rattle.std.proofs.Common.{◌≡◌, ℕ, ◌+◌, ◌<◌, ◌≤◌, List, [], ◌∷◌, ◌++◌, length, take, drop, refl, sym, ◌∙◌, ap, subst, arith, length-append}
 use Rattle.std.proofs.lemmas.List.{take-append-le, drop-append-le, length-drop, drop_at, take_all}
 use Rattle.dev_model.specs.Story.{Past, Call, Write, FailedWrite}
-use Rattle.dev_model.specs.Inside.{Noted, bytes_from, entry_of, entries_onto, IsWithin, AreWithin, IsSound, AreLaid, BeginsAt, size_of}
+use Rattle.dev_model.specs.Inside.{Noted, bytes_from, call_of, calls_onto, IsWithin, AreWithin, IsSound, AreLaid, BeginsAt, size_of}
 use Rattle.dev_model.specs.Memory.{bytes_noted}
 use Rattle.dev_model.specs.declared.record.Kept.{Kept}
 use Rattle.dev_model.specs.declared.record.Kept.TheVariants as stored
@@ -13,26 +13,26 @@ bytes_from-append written more from count within =
     let room : count ≤ length (drop from written) = omega (arith, length-drop from written) in
     ap (take count) (drop-append-le from written more first) ∙ take-append-le count (drop from written) more room
 
-entry_of-append : (written more : List ℕ) (c : Kept) → IsWithin (length written) c → entry_of (written ++ more) c ≡ entry_of written c
-entry_of-append written more (stored.Read at count) within = refl
-entry_of-append written more (stored.Write at from count) within = ap (Write at) (bytes_from-append written more from count within)
-entry_of-append written more (stored.FailedWrite at from count) within = ap (FailedWrite at) (bytes_from-append written more from count within)
-entry_of-append written more stored.Sync within = refl
-entry_of-append written more stored.Failed within = refl
+call_of-append : (written more : List ℕ) (c : Kept) → IsWithin (length written) c → call_of (written ++ more) c ≡ call_of written c
+call_of-append written more (stored.Read at count) within = refl
+call_of-append written more (stored.Write at from count) within = ap (Write at) (bytes_from-append written more from count within)
+call_of-append written more (stored.FailedWrite at from count) within = ap (FailedWrite at) (bytes_from-append written more from count within)
+call_of-append written more stored.Sync within = refl
+call_of-append written more stored.Failed within = refl
 
 -- bytes that are written behind the others change no call that is kept
-pub entries_onto-append : (earlier : Past) (calls : List Kept) (written more : List ℕ) → AreWithin (length written) calls → entries_onto earlier calls (written ++ more) ≡ entries_onto earlier calls written
-entries_onto-append earlier [] written more within = refl
-entries_onto-append earlier (c ∷ calls) written more within =
-    ap (λ (e : Call). entries_onto (e ∷ earlier) calls (written ++ more)) (entry_of-append written more c within.0) ∙ entries_onto-append (entry_of written c ∷ earlier) calls written more within.1
+pub calls_onto-append : (earlier : Past) (calls : List Kept) (written more : List ℕ) → AreWithin (length written) calls → calls_onto earlier calls (written ++ more) ≡ calls_onto earlier calls written
+calls_onto-append earlier [] written more within = refl
+calls_onto-append earlier (c ∷ calls) written more within =
+    ap (λ (e : Call). calls_onto (e ∷ earlier) calls (written ++ more)) (call_of-append written more c within.0) ∙ calls_onto-append (call_of written c ∷ earlier) calls written more within.1
 
-pub entries_onto-push : (earlier : Past) (calls : List Kept) (c : Kept) (written : List ℕ) → entries_onto earlier (calls ++ c ∷ []) written ≡ entry_of written c ∷ entries_onto earlier calls written
-entries_onto-push earlier [] c written = refl
-entries_onto-push earlier (b ∷ calls) c written = entries_onto-push (entry_of written b ∷ earlier) calls c written
+pub calls_onto-push : (earlier : Past) (calls : List Kept) (c : Kept) (written : List ℕ) → calls_onto earlier (calls ++ c ∷ []) written ≡ call_of written c ∷ calls_onto earlier calls written
+calls_onto-push earlier [] c written = refl
+calls_onto-push earlier (b ∷ calls) c written = calls_onto-push (call_of written b ∷ earlier) calls c written
 
-pub length-entries_onto : (earlier : Past) (calls : List Kept) (written : List ℕ) → length (entries_onto earlier calls written) ≡ length earlier + length calls
-length-entries_onto earlier [] written = omega arith
-length-entries_onto earlier (c ∷ calls) written = omega (arith, length-entries_onto (entry_of written c ∷ earlier) calls written)
+pub length-calls_onto : (earlier : Past) (calls : List Kept) (written : List ℕ) → length (calls_onto earlier calls written) ≡ length earlier + length calls
+length-calls_onto earlier [] written = omega arith
+length-calls_onto earlier (c ∷ calls) written = omega (arith, length-calls_onto (call_of written c ∷ earlier) calls written)
 
 IsWithin-more : (m n : ℕ) (c : Kept) → m ≤ n → IsWithin m c → IsWithin n c
 IsWithin-more m n (stored.Read at count) le within = tt
@@ -50,17 +50,17 @@ AreLaid-push start end [] c laid begins = (subst (λ (n : ℕ). BeginsAt n c) (s
 AreLaid-push start end (b ∷ calls) c laid begins = (laid.0, AreLaid-push (start + size_of b) end calls c laid.1 begins)
 
 module _ (calls : List Kept) (written : List ℕ) (room_calls room_bytes calls_capacity bytes_capacity : ℕ) (sound : IsSound calls written room_calls room_bytes calls_capacity bytes_capacity) where
-  pub length-entries : length (entries_onto [] calls written) ≡ length calls
-  length-entries = omega (arith, length-entries_onto [] calls written)
+  pub length-calls : length (calls_onto [] calls written) ≡ length calls
+  length-calls = omega (arith, length-calls_onto [] calls written)
 
   module _ (c : Kept) (more : List ℕ) (calls_after : List Kept) (written_after : List ℕ) (calls_are : calls_after ≡ calls ++ c ∷ []) (written_are : written_after ≡ written ++ more) where
-    pub entries-after : entries_onto [] calls_after written_after ≡ entry_of (written ++ more) c ∷ entries_onto [] calls written
-    entries-after =
-        (λ j. entries_onto [] (calls_are j) (written_are j)) ∙ entries_onto-push [] calls c (written ++ more)
-        ∙ ap (λ (es : Past). entry_of (written ++ more) c ∷ es) (entries_onto-append [] calls written more sound.within)
+    pub calls-after : calls_onto [] calls_after written_after ≡ call_of (written ++ more) c ∷ calls_onto [] calls written
+    calls-after =
+        (λ j. calls_onto [] (calls_are j) (written_are j)) ∙ calls_onto-push [] calls c (written ++ more)
+        ∙ ap (λ (es : Past). call_of (written ++ more) c ∷ es) (calls_onto-append [] calls written more sound.within)
 
     pub sound-after : (calls_now bytes_now : ℕ) → length calls < room_calls → length written + length more ≤ room_bytes → IsWithin (length written + length more) c
-        → bytes_noted (entry_of (written ++ more) c ∷ entries_onto [] calls written) ≡ length more + bytes_noted (entries_onto [] calls written)
+        → bytes_noted (call_of (written ++ more) c ∷ calls_onto [] calls written) ≡ length more + bytes_noted (calls_onto [] calls written)
         → calls_capacity ≤ calls_now → bytes_capacity ≤ bytes_now → BeginsAt (length written) c → size_of c ≡ length more → IsSound calls_after written_after room_calls room_bytes calls_now bytes_now
     sound-after calls_now bytes_now room bytes_room within noted calls_le bytes_le begins size_is =
         let size : length written_after ≡ length written + length more = ap length written_are ∙ length-append written more in
@@ -74,18 +74,18 @@ module _ (calls : List Kept) (written : List ℕ) (room_calls room_bytes calls_c
               let all : AreLaid 0 (calls ++ c ∷ []) (length written + size_of c) = AreLaid-push 0 (length written) calls c sound.laid begins in
               let end : length written + size_of c ≡ length written_after = omega (arith, size_is) in
               subst (λ (l : List Kept). AreLaid 0 l (length written_after)) (sym calls_are) (subst (λ (n : ℕ). AreLaid 0 (calls ++ c ∷ []) n) end all);
-          bytes_are = ap bytes_noted entries-after ∙ noted ∙ omega (arith, sound.bytes_are);
+          bytes_are = ap bytes_noted calls-after ∙ noted ∙ omega (arith, sound.bytes_are);
           calls_taken = omega (arith, sound.calls_taken);
           bytes_taken = omega (arith, sound.bytes_taken);
         }
 
     -- what contracts see of the record then
-    pub noted-after : (now : Noted) (e : Call) → entry_of (written ++ more) c ≡ e
-        → (let before : Noted = record { past = entries_onto [] calls written; room_calls = room_calls; room_bytes = room_bytes } in before ≡ now)
-        → (let after : Noted = record { past = entries_onto [] calls_after written_after; room_calls = room_calls; room_bytes = room_bytes } in
+    pub noted-after : (now : Noted) (e : Call) → call_of (written ++ more) c ≡ e
+        → (let before : Noted = record { past = calls_onto [] calls written; room_calls = room_calls; room_bytes = room_bytes } in before ≡ now)
+        → (let after : Noted = record { past = calls_onto [] calls_after written_after; room_calls = room_calls; room_bytes = room_bytes } in
         let more_noted : Noted = record { past = e ∷ now.past; room_calls = now.room_calls; room_bytes = now.room_bytes } in after ≡ more_noted)
     noted-after now e is view_is = λ j. record {
-      past = (entries-after ∙ (λ k. is k ∷ (view_is k).past)) j;
+      past = (calls-after ∙ (λ k. is k ∷ (view_is k).past)) j;
       room_calls = (view_is j).room_calls;
       room_bytes = (view_is j).room_bytes;
     }

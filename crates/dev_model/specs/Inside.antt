@@ -21,17 +21,17 @@ abbrev pub bytes_from : List ℕ → (from count : ℕ) → List ℕ
 bytes_from written from count = take count (drop from written)
 
 -- a call as it is kept
-abbrev pub entry_of : List ℕ → Kept → Call
-entry_of written (stored.Read at count) = Read at count
-entry_of written (stored.Write at from count) = Write at (bytes_from written from count)
-entry_of written (stored.FailedWrite at from count) = FailedWrite at (bytes_from written from count)
-entry_of written stored.Sync = Sync
-entry_of written stored.Failed = FailedCall
+abbrev pub call_of : List ℕ → Kept → Call
+call_of written (stored.Read at count) = Read at count
+call_of written (stored.Write at from count) = Write at (bytes_from written from count)
+call_of written (stored.FailedWrite at from count) = FailedWrite at (bytes_from written from count)
+call_of written stored.Sync = Sync
+call_of written stored.Failed = FailedCall
 
 -- the calls that are kept, the newest first, before those that came earlier
-abbrev pub entries_onto : Past → List Kept → List ℕ → Past
-entries_onto earlier [] written = earlier
-entries_onto earlier (c ∷ calls) written = entries_onto (entry_of written c ∷ earlier) calls written
+abbrev pub calls_onto : Past → List Kept → List ℕ → Past
+calls_onto earlier [] written = earlier
+calls_onto earlier (c ∷ calls) written = calls_onto (call_of written c ∷ earlier) calls written
 
 -- the bytes of a call are among the written ones
 abbrev pub IsWithin : ℕ → Kept → Type 0
@@ -84,7 +84,7 @@ pub record IsSound (calls : List Kept) (written : List ℕ) (room_calls room_byt
   pub calls_fit : length calls ≤ room_calls
   pub bytes_fit : length written ≤ room_bytes
   pub laid : AreLaid 0 calls (length written)
-  pub bytes_are : bytes_noted (entries_onto [] calls written) ≡ length written
+  pub bytes_are : bytes_noted (calls_onto [] calls written) ≡ length written
   pub calls_taken : room_calls ≤ calls_capacity
   pub bytes_taken : room_bytes ≤ bytes_capacity
 

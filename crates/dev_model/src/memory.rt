@@ -30,6 +30,11 @@ impl From<AllocError> for ImageFault {
     }
 }
 
+/// A device in memory, for tests.
+///
+/// Its calls fail where they are listed, at the clock's last value and past its room: the record of its calls has room
+/// for so many calls and for so many written bytes. A listed write that fails is torn in the images, and reads go on
+/// giving the old bytes. A call past the room changes nothing.
 #[derive(Drop)]
 pub struct MemDevice {
     alloc: Global,
@@ -100,7 +105,8 @@ impl MemDevice {
     /// One image of a moment, as a device of its own: every range that isn't synced stands as `torn` says.
     pub fn image_at(&self, moment: u64, torn: Torn) -> Result<MemDevice, ImageFault>
         ensures state { IfOk result (λ d. d ≡ record self.now { start = d.start; past = []; fail = []; faults = 0 }) }
-        ensures image { IfOk result (λ d. (i : ℕ) → slice_index d.start i ≡ image_at torn (place self.now.start) self.now.past moment i) }
+        ensures image { IfOk result (λ d. (i : ℕ) →
+            slice_index d.start i ≡ image_at torn (place self.now.start) self.now.past moment i) }
         ensures allowed { IfOk result (λ d. IsImage (story_of self.now) moment (place d.start)) }
         ensures no_moment { (result ≡ Err ImageFault.NoMoment) ↔ (length self.now.past < moment) }
     {
@@ -125,8 +131,8 @@ impl MemDevice {
         })
     }
 
-    /// Changes a byte, for tests: at clock 0, as it is read, and in each write that covers it. So it is changed in each image,
-    /// but where `Torn::Fill` puts its own byte.
+    /// Changes a byte, for tests: at clock 0, as it is read, and in each write that covers it. So it is changed in each
+    /// image, but where `Torn::Fill` puts its own byte.
     pub fn poke(&mut self, at: u64, byte: u8)
         requires { at < self.old.pages * 4096 }
         ensures { self.new ≡ poked at byte self.old }
@@ -285,12 +291,18 @@ impl Device for MemDevice {
         ensures ticks { OnOk result (length self.new.past ≡ length self.old.past + 1) }
         ensures same_pages { self.new.pages ≡ self.old.pages }
         ensures cause { HasCause self.old.faults self.new.faults result }
-        ensures exact { IsErr result ↔ (Refuses self.old ⊎ (self.old.room_bytes < bytes_noted self.old.past + length bytes.now)) }
+        ensures exact { IsErr result ↔
+            (Refuses self.old ⊎ (self.old.room_bytes < bytes_noted self.old.past + length bytes.now)) }
         ensures state { OnOk result (self.new ≡ record self.old { past = Write at bytes.now ∷ self.old.past }) }
         ensures listed { HasCallLeft self.old → IsListed self.old → HasRoom self.old (length bytes.now) →
-            self.new ≡ record self.old { past = FailedWrite at bytes.now ∷ self.old.past; faults = next_count self.old.faults } }
-        ensures past_calls { (2 ^ 64 - 1 ≤ length self.old.past) ⊎ (self.old.room_calls ≤ length self.old.past) → self.new ≡ with_failure self.old }
-        ensures past_room { self.old.room_bytes < bytes_noted self.old.past + length bytes.now → self.new ≡ with_failure self.old }
+            self.new ≡ record self.old {
+              past = FailedWrite at bytes.now ∷ self.old.past;
+              faults = next_count self.old.faults;
+            } }
+        ensures past_calls { (2 ^ 64 - 1 ≤ length self.old.past) ⊎ (self.old.room_calls ≤ length self.old.past) →
+            self.new ≡ with_failure self.old }
+        ensures past_room { self.old.room_bytes < bytes_noted self.old.past + length bytes.now →
+            self.new ≡ with_failure self.old }
     {
         if !self.has_call_left() || !self.has_room(bytes.len()) {
             self.fail_call();

@@ -2,7 +2,7 @@
 ghost use Rattle.std.specs.Prelude.{◌≡◌, ◌+◌, ◌<◌, ◌≤◌, ◌↔◌, ◌++◌, [], ◌∷◌, length, IsTrue, IfOk, vec_len, vec_capacity, ℕ, slice_index, map};
 ghost use Rattle.dev_model.specs.Story.{Read, Write, Sync, FailedWrite, FailedCall};
 ghost use Rattle.dev_model.specs.Memory.{bytes_noted, poked_call};
-ghost use Rattle.dev_model.specs.Inside.{entry_of, entries_onto, IsWithin, AreWithin, poked_in, poked_in_all};
+ghost use Rattle.dev_model.specs.Inside.{call_of, calls_onto, IsWithin, AreWithin, poked_in, poked_in_all};
 ghost use Rattle.dev_model.specs.Memory.{place};
 ghost use Rattle.dev_model.specs.Inside.{bytes_with, image_with, IsOnDevice, AreOnDevice};
 ghost use Rattle.dev_model.specs.TornImages.{image_during, image_at};
@@ -30,11 +30,11 @@ pub struct CallRecord {
 
 impl Model for CallRecord {
     ghost use Rattle.std.specs.Prelude.{[], vec_capacity};
-    ghost use Rattle.dev_model.specs.Inside.{Noted, entries_onto, IsSound};
+    ghost use Rattle.dev_model.specs.Inside.{Noted, calls_onto, IsSound};
 
     ghost Value = { Noted };
 
-    ghost view = { λ r. record { past = entries_onto [] r.calls.items r.written.items; room_calls = r.room_calls; room_bytes = r.room_bytes } };
+    ghost view = { λ r. record { past = calls_onto [] r.calls.items r.written.items; room_calls = r.room_calls; room_bytes = r.room_bytes } };
 
     ghost invariant = { λ r. IsSound r.calls.items r.written.items r.room_calls r.room_bytes (vec_capacity r.calls) (vec_capacity r.written) };
 }
@@ -196,10 +196,10 @@ fn poke_calls(calls: &[Kept], written: &mut [u8], at: u64, byte: u8)
 // Does one call more to the bytes as read and to an image.
 fn replay_call(call: Kept, written: &[u8], torn: Torn, bytes: &mut [u8], image: &mut [u8])
     requires within { IsWithin (length written.now) call }
-    requires on_device { IsOnDevice (length bytes.old) (entry_of written.now call) }
+    requires on_device { IsOnDevice (length bytes.old) (call_of written.now call) }
     requires same { length image.old ≡ length bytes.old }
-    ensures bytes { (i : ℕ) → slice_index bytes.new i ≡ bytes_with (entry_of written.now call) (place bytes.old) i }
-    ensures image { (i : ℕ) → slice_index image.new i ≡ image_with torn (entry_of written.now call) (place bytes.old) (place image.old) i }
+    ensures bytes { (i : ℕ) → slice_index bytes.new i ≡ bytes_with (call_of written.now call) (place bytes.old) i }
+    ensures image { (i : ℕ) → slice_index image.new i ≡ image_with torn (call_of written.now call) (place bytes.old) (place image.old) i }
 {
     match call {
         Kept::Write { at, from, count } => {
@@ -218,8 +218,8 @@ fn replay_call(call: Kept, written: &[u8], torn: Torn, bytes: &mut [u8], image: 
 // Tears the range of a call that is under way.
 fn tear_call(call: Kept, written: &[u8], torn: Torn, image: &mut [u8])
     requires within { IsWithin (length written.now) call }
-    requires on_device { IsOnDevice (length image.old) (entry_of written.now call) }
-    ensures { (i : ℕ) → slice_index image.new i ≡ image_during torn (entry_of written.now call) (place image.old) i }
+    requires on_device { IsOnDevice (length image.old) (call_of written.now call) }
+    ensures { (i : ℕ) → slice_index image.new i ≡ image_during torn (call_of written.now call) (place image.old) i }
 {
     match call {
         Kept::Write { at, from, count } | Kept::FailedWrite { at, from, count } => {
@@ -239,10 +239,10 @@ fn replay_calls(
     image: &mut [u8],
 )
     requires within { AreWithin (length written.now) calls.now }
-    requires on_device { AreOnDevice (length bytes.old) (entries_onto [] calls.now written.now) }
+    requires on_device { AreOnDevice (length bytes.old) (calls_onto [] calls.now written.now) }
     requires same { image.old ≡ bytes.old }
     requires moment { moment ≤ length calls.now }
-    ensures { (i : ℕ) → slice_index image.new i ≡ image_at torn (place image.old) (entries_onto [] calls.now written.now) moment i }
+    ensures { (i : ℕ) → slice_index image.new i ≡ image_at torn (place image.old) (calls_onto [] calls.now written.now) moment i }
 {
     for index in 0..moment {
         replay_call(calls[index], written, torn, bytes, image);
