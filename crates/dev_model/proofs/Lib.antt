@@ -1,1 +1,7 @@
+pub mod Allowed
+pub mod Images
+pub mod MemoryLemmas
+pub mod Poking
+pub mod RecordLemmas
+pub mod Replay
 pub mod UnderWay

@@ -1,5 +1,11 @@
 pub mod Adapted
 pub mod Counts
+pub mod DeviceCalls
+pub mod Inside
 pub mod Laws
+pub mod Memory
+pub mod Moments
 pub mod Planned
+pub mod Story
 pub mod Streams
+pub mod TornImages

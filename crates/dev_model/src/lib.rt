@@ -1,12 +1,24 @@
-//! What the store sees of the outside: where bytes come from and where they go, with counts of faults.
+//! What the store sees of the outside: streams of bytes, a device and its pages, with counts of faults.
 #![tactic(auto)]
 
+pub mod calls;
+mod device;
+mod durable;
+mod memory;
 mod memory_streams;
+mod pages;
+mod record;
 mod sending;
 mod std_streams;
 mod streams;
+mod torn;
 
+pub use device::Device;
+pub use durable::write_synced;
+pub use memory::{ImageFault, MemDevice};
 pub use memory_streams::{MemSink, MemSource};
+pub use pages::Pages;
 pub use sending::send_all;
 pub use std_streams::{ReadSource, WriteSink};
 pub use streams::{Failed, Sink, Source};
+pub use torn::Torn;

@@ -136,7 +136,8 @@ impl Sink for MemSink {
         ensures counts { Counts self.old.faults self.new.faults result }
         ensures told { Takes (Some self.old.taken) (Some self.new.taken) bytes.now result }
 
-        ensures exact { IsErr result ↔ (Contains self.old.fail (next_count self.old.calls) ⊎ (self.old.room ≤ length self.old.taken)) }
+        ensures exact { IsErr result ↔
+            (Contains self.old.fail (next_count self.old.calls) ⊎ (self.old.room ≤ length self.old.taken)) }
         ensures most { IfOk result (λ n. n ≡ min (length bytes.now) (self.old.room - length self.old.taken)) }
         ensures given { IfOk result (λ n.
             self.new ≡ record self.old { taken = self.old.taken ++ take n bytes.now; calls = next_count self.old.calls }) }
