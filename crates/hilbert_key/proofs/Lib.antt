@@ -1,0 +1,4 @@
+pub mod ValueSteps
+pub mod Order
+pub mod Examples
+pub mod Stretch
