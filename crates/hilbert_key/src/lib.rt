@@ -24,6 +24,15 @@ pub const ORDER: u32 = 16;
 /// A cell is an aligned square of side `2 ^ CELL_ORDER`.
 pub const CELL_ORDER: u32 = 8;
 
+/// The side of a square of an order.
+#[tactic(auto, using(std::proofs::lemmas::Nat::one_shl, crate::specs::laws::Quadrants::side_fits))]
+pub fn side(order: u32) -> CurveValue
+    requires { order ≤ ORDER }
+    ensures { result ≡ 2 ^ order }
+{
+    1 << order
+}
+
 // A quadrant of a square, by its place on the curve, and a point's place
 // within it, turned as the curve turns there.
 #[derive(Clone, Copy)]
@@ -31,14 +40,6 @@ struct Descent {
     quadrant: CurveValue,
     x: CurveValue,
     y: CurveValue,
-}
-
-#[tactic(auto, using(std::proofs::lemmas::Nat::one_shl, crate::specs::laws::Quadrants::side_fits))]
-fn side(order: u32) -> CurveValue
-    requires { order ≤ ORDER }
-    ensures { result ≡ 2 ^ order }
-{
-    1 << order
 }
 
 #[tactic(auto, using(crate::specs::laws::Quadrants::lower_left, crate::specs::laws::Quadrants::upper_left, crate::specs::laws::Quadrants::upper_right, crate::specs::laws::Quadrants::lower_right, crate::specs::laws::Quadrants::side_fits))]
