@@ -1,0 +1,4 @@
+pub mod Examples
+pub mod Folding
+pub mod Lines
+pub mod laws

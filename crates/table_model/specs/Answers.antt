@@ -1,0 +1,34 @@
+-- The plain table's answers.
+use Rattle.std.specs.Prelude.{List, [], ◌∷◌, Option, Some, None}
+use Rattle.std.specs.FinMap as map
+use Rattle.table_model.specs.Table.{Table, Place, place_of, rows_of, rows_inside}
+use Rattle.table_model.specs.Commands.{Write, put, Command, write, region, WriteReply, put_new, put_old, Reply, wrote, rows}
+
+abbrev pub after_write : Table → Write → Table
+after_write t (put row) = map.insert t row.key (place_of row)
+
+abbrev pub put_reply : Option Place → WriteReply
+put_reply None = put_new
+put_reply (Some old) = put_old old.point old.note
+
+abbrev pub write_reply : Table → Write → WriteReply
+write_reply t (put row) = put_reply (map.get t row.key)
+
+abbrev pub table_after : Table → Command → Table
+table_after t (write w) = after_write t w
+table_after t (region kind r) = t
+
+-- the reply doesn't depend on the index by which a region is asked for
+abbrev pub reply_to : Table → Command → Reply
+reply_to t (write w) = wrote (write_reply t w)
+reply_to t (region kind r) = rows (rows_inside r (rows_of t))
+
+-- the table after a list of commands
+abbrev pub replay : Table → List Command → Table
+replay t [] = t
+replay t (c ∷ cs) = replay (table_after t c) cs
+
+-- the replies to a list of commands, each at the table after those before it
+abbrev pub replies : Table → List Command → List Reply
+replies t [] = []
+replies t (c ∷ cs) = reply_to t c ∷ replies (table_after t c) cs

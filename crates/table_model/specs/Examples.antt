@@ -1,0 +1,48 @@
+-- Worked examples: two lanes that each put a row and ask for it, in one of their shuffles; and a script
+-- of one lane with a refused command. No public contract but that of the examples needs this file.
+use Rattle.std.specs.Prelude.{ℕ, List, [], ◌∷◌, codes}
+use Rattle.geo_base.specs.Corners.{Corners}
+use Rattle.geo_base.specs.declared.points.Point.{Point}
+use Rattle.geo_base.specs.declared.points.Row.{Row}
+use Rattle.geo_base.specs.declared.points.IndexKind.TheVariants.{Dhvb}
+use Rattle.table_model.specs.declared.Why.TheVariants.{Memory}
+use Rattle.table_model.specs.Commands.{Command, write, put, region, Outcome, answered, refused, wrote, rows, put_new, put_old}
+use Rattle.table_model.specs.Phases.{Phases}
+use Rattle.table_model.specs.Record.{RunRecord}
+
+abbrev pub one : Row
+one = record { key = 1; point = record { x = 1; y = 1 }; note = codes "a" }
+
+abbrev pub two : Row
+two = record { key = 1; point = record { x = 2; y = 2 }; note = codes "b" }
+
+abbrev pub all_points : Command
+all_points = region Dhvb (record { x1 = 0; y1 = 0; x2 = 65535; y2 = 65535 })
+
+abbrev pub shuffled_script : Phases Command
+shuffled_script = record {
+  setup = [];
+  lanes = (write (put one) ∷ all_points ∷ []) ∷ (write (put two) ∷ all_points ∷ []) ∷ [];
+  after = [];
+}
+
+abbrev pub shuffled_record : RunRecord
+shuffled_record = record {
+  setup = [];
+  lanes = (answered 0 (wrote put_new) ∷ answered 4 (rows (two ∷ [])) ∷ [])
+      ∷ (answered 2 (wrote (put_old one.point one.note)) ∷ answered 7 (rows (two ∷ [])) ∷ []) ∷ [];
+  after = [];
+}
+
+abbrev pub shuffled_text : List ℕ
+shuffled_text = codes "0 1 put new\n1 2 put old 1 1 a\n2 1 region 1\n= 1 2 2 b\n3 2 region 1\n= 1 2 2 b\n"
+
+-- the second command was refused: it has no place
+abbrev pub refused_script : Phases Command
+refused_script = record { setup = write (put one) ∷ all_points ∷ write (put two) ∷ []; lanes = []; after = [] }
+
+abbrev pub refused_record : RunRecord
+refused_record = record { setup = answered 3 (wrote put_new) ∷ refused Memory ∷ answered 9 (wrote (put_old one.point one.note)) ∷ []; lanes = []; after = [] }
+
+abbrev pub refused_run_text : List ℕ
+refused_run_text = codes "0 0 put new\n1 0 put old 1 1 a\n- 0 memory\n"

@@ -1,0 +1,7 @@
+pub mod Answers
+pub mod Commands
+pub mod Examples
+pub mod Phases
+pub mod Record
+pub mod Table
+pub mod Text
