@@ -9,6 +9,7 @@ use Rattle.hilbert_key.specs.Cells.{cell_number}
 use Rattle.region_cover.specs.Cover.{CellMeets, IsCovered, IsAmong, IsCellAmong}
 use Rattle.region_cover.specs.Steps.{Has, IsPart, HasValue, Adds}
 use Rattle.region_cover.specs.declared.ranges.Range.{Range}
+use Rattle.region_cover.proofs.Meeting.{inside_parts}
 use Rattle.region_cover.specs.declared.parts.Part.{Part}
 
 none_among : (v : ℕ) → IsAmong [] v → ⊥
@@ -39,10 +40,10 @@ cells_covered r ranges bound filled is cell = (to, from)
   where
     to : CellMeets r cell → IsCellAmong ranges cell
     to h =
-        let inside = h.1 in
+        let inside = inside_parts r h.0 h.1 in
         let x_in : h.0.x < 65536 = omega (arith, inside.1) in
         let y_in : h.0.y < 65536 = omega (arith, inside.3) in
-        let a = (is (curve_value 16 h.0.x h.0.y)).0 (h.0, x_in, y_in, refl, (h.0, inside, refl)) in
+        let a = (is (curve_value 16 h.0.x h.0.y)).0 (h.0, x_in, y_in, refl, (h.0, h.1, refl)) in
         let c : curve_value 16 h.0.x h.0.y / 65536 ≡ cell = h.2 in
         (a.0, a.1, a.2, a.3, (omega (arith, a.4.0, c), omega (arith, a.4.1, c)))
 

@@ -1,13 +1,22 @@
 -- The cells that a rectangle meets.
-use Rattle.std.proofs.Common.{◌≡◌, ℕ, ◌+◌, ◌-◌, ◌*◌, ◌/◌, ◌%◌, ◌^◌, ◌<◌, ◌≤◌, ◌↔◌, inl, inr, arith, ap, sym, ◌∙◌}
+use Rattle.std.proofs.Common.{◌≡◌, ℕ, ◌+◌, ◌-◌, ◌*◌, ◌/◌, ◌%◌, ◌^◌, ◌<◌, ◌≤◌, ◌↔◌, inl, inr, arith, ap, sym, ◌∙◌, IsTrue}
 use Rattle.std.proofs.lemmas.Bool.{cases_lt}
+use Rattle.std.proofs.lemmas.Bool.Decides.{nat_tests}
 use Rattle.geo_base.specs.Corners.{Corners}
+use Rattle.geo_base.specs.Inside.{encloses}
 use Rattle.geo_base.specs.declared.points.Point.{Point}
 use Rattle.hilbert_key.specs.Curve.{curve_value}
 use Rattle.hilbert_key.specs.Cells.{cell_number}
 use Rattle.hilbert_key.specs.laws.Points.{curve_value-injective}
 use Rattle.hilbert_key.specs.laws.Squares.{curve_value-coarse}
 use Rattle.region_cover.specs.Cover.{CellMeets}
+
+-- the four sides of the test
+pub inside_parts : (r : Corners) (p : Point) → IsTrue (encloses r p) → (r.x1 ≤ p.x) × (p.x ≤ r.x2) × (r.y1 ≤ p.y) × (p.y ≤ r.y2)
+inside_parts r p h = (grind (arith, nat_tests), grind (arith, nat_tests), grind (arith, nat_tests), grind (arith, nat_tests))
+
+inside_all : (r : Corners) (p : Point) → r.x1 ≤ p.x → p.x ≤ r.x2 → r.y1 ≤ p.y → p.y ≤ r.y2 → IsTrue (encloses r p)
+inside_all r p a b c d = grind (arith, nat_tests)
 
 -- two points have one cell where they lie in one column of cells and one row of cells
 pub same_cell : (x y p q : ℕ) → x < 65536 → y < 65536 → p < 65536 → q < 65536
@@ -40,11 +49,11 @@ cell_meets r x y x_up y_up x_fits y_fits a b = (to, from)
     to h =
         let p = between r.x1 r.x2 x x_up h.0.0 h.0.1 in
         let q = between r.y1 r.y2 y y_up h.1.0 h.1.1 in
-        (record { x = p.0; y = q.0 }, (p.1, p.2, q.1, q.2), (same_cell x y p.0 q.0 a b (omega (arith, p.2)) (omega (arith, q.2))).1 (p.3, q.3))
+        (record { x = p.0; y = q.0 }, inside_all r (record { x = p.0; y = q.0 }) p.1 p.2 q.1 q.2, (same_cell x y p.0 q.0 a b (omega (arith, p.2)) (omega (arith, q.2))).1 (p.3, q.3))
 
     from : CellMeets r (cell_number x y) → ((r.x1 / 256 ≤ x / 256) × (x / 256 ≤ r.x2 / 256)) × ((r.y1 / 256 ≤ y / 256) × (y / 256 ≤ r.y2 / 256))
     from h =
-        let inside = h.1 in
+        let inside = inside_parts r h.0 h.1 in
         let same = (same_cell x y h.0.x h.0.y a b (omega (arith, inside.1)) (omega (arith, inside.3))).0 h.2 in
         ((omega (arith, inside.0, same.0), omega (arith, inside.1, same.0)), (omega (arith, inside.2, same.1), omega (arith, inside.3, same.1)))
 

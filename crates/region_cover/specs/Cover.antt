@@ -1,7 +1,7 @@
 -- The cover of a rectangle: the values along the curve of all points whose cell meets it, as ranges.
-use Rattle.std.specs.Prelude.{◌≡◌, ℕ, ◌+◌, ◌*◌, ◌/◌, ◌^◌, ◌<◌, ◌≤◌, ◌↔◌, List, All, AllPairs, Any}
+use Rattle.std.specs.Prelude.{◌≡◌, ℕ, ◌+◌, ◌*◌, ◌/◌, ◌^◌, ◌<◌, ◌≤◌, ◌↔◌, List, All, AllPairs, Any, IsTrue}
 use Rattle.geo_base.specs.Corners.{Corners}
-use Rattle.geo_base.specs.Inside.{Encloses}
+use Rattle.geo_base.specs.Inside.{encloses}
 use Rattle.geo_base.specs.declared.points.Point.{Point}
 use Rattle.hilbert_key.specs.Curve.{curve_value}
 use Rattle.hilbert_key.specs.Cells.{cell_number}
@@ -10,7 +10,7 @@ use Rattle.region_cover.specs.declared.ranges.Range.{Range}
 
 -- the cell's square meets the rectangle: some point of the rectangle lies in the cell
 abbrev pub CellMeets : Corners → ℕ → Type 0
-CellMeets r cell = (p : Point) × Encloses r p × (cell_number p.x p.y ≡ cell)
+CellMeets r cell = (p : Point) × IsTrue (encloses r p) × (cell_number p.x p.y ≡ cell)
 
 -- the value of a point whose cell meets the rectangle
 abbrev pub IsCovered : Corners → ℕ → Type 0
