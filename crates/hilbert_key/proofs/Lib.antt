@@ -1,4 +1,3 @@
 pub mod ValueSteps
 pub mod Order
-pub mod Examples
 pub mod Stretch

@@ -37,10 +37,11 @@ pub stretch_is : (k j x y p q : ℕ) → x < 2 ^ (k + j) → y < 2 ^ (k + j) →
     ↔ ((p / 2 ^ j ≡ x / 2 ^ j) × (q / 2 ^ j ≡ y / 2 ^ j))
 stretch_is k j x y p q a b c d =
     let e = curve_value-coarse j k x y a b in
-    let f = curve_value-coarse j k p q c d in
-    ((λ h. two (curve_value-injective k (p / 2 ^ j) (q / 2 ^ j) (x / 2 ^ j) (y / 2 ^ j)
-        (cell-below j k p c) (cell-below j k q d) (cell-below j k x a) (cell-below j k y b) (sym f ∙ h ∙ e))),
-    (λ h. f ∙ same k _ _ _ _ h.0 h.1 ∙ sym e))
+    let f = curve_value-coarse j k p q c d in (
+      (λ h. two (curve_value-injective k (p / 2 ^ j) (q / 2 ^ j) (x / 2 ^ j) (y / 2 ^ j)
+          (cell-below j k p c) (cell-below j k q d) (cell-below j k x a) (cell-below j k y b) (sym f ∙ h ∙ e))),
+      (λ h. f ∙ same k _ _ _ _ h.0 h.1 ∙ sym e),
+    )
   where
     two : {a b c d : ℕ} → ◌≡◌ {A = ℕ × ℕ} (a, b) (c, d) → (a ≡ c) × (b ≡ d)
     two e = (ap (λ w. w.0) e, ap (λ w. w.1) e)
@@ -54,10 +55,11 @@ within_stretch j b v =
     let p = square_pos j in
     let l = last_of (2 ^ j) (pow_pos j) in
     let whole : v / (2 ^ j * 2 ^ j) * (2 ^ j * 2 ^ j) + v % (2 ^ j * 2 ^ j) ≡ v = div-add-mod' v (2 ^ j * 2 ^ j) in
-    let rest : v % (2 ^ j * 2 ^ j) < 2 ^ j * 2 ^ j = mod_below v (2 ^ j * 2 ^ j) p in
-    ((λ h. let from : b * 2 ^ j * 2 ^ j ≤ v = h.0 in
-        let to : v ≤ b * 2 ^ j * 2 ^ j + ((2 ^ j - 1) * 2 ^ j + (2 ^ j - 1)) = h.1 in
-        let back : b * (2 ^ j * 2 ^ j) + (v - b * 2 ^ j * 2 ^ j) ≡ v = omega arith in
-        sym (ap (λ n. n / (2 ^ j * 2 ^ j)) back) ∙ div-mul-add b (2 ^ j * 2 ^ j) (v - b * 2 ^ j * 2 ^ j) (omega arith)),
-    (λ e. let times : v / (2 ^ j * 2 ^ j) * (2 ^ j * 2 ^ j) ≡ b * (2 ^ j * 2 ^ j) = ap (λ n. n * (2 ^ j * 2 ^ j)) e in
-        (omega arith, omega arith)))
+    let rest : v % (2 ^ j * 2 ^ j) < 2 ^ j * 2 ^ j = mod_below v (2 ^ j * 2 ^ j) p in (
+      (λ h. let from : b * 2 ^ j * 2 ^ j ≤ v = h.0 in
+          let to : v ≤ b * 2 ^ j * 2 ^ j + ((2 ^ j - 1) * 2 ^ j + (2 ^ j - 1)) = h.1 in
+          let back : b * (2 ^ j * 2 ^ j) + (v - b * 2 ^ j * 2 ^ j) ≡ v = omega arith in
+          sym (ap (λ n. n / (2 ^ j * 2 ^ j)) back) ∙ div-mul-add b (2 ^ j * 2 ^ j) (v - b * 2 ^ j * 2 ^ j) (omega arith)),
+      (λ e. let times : v / (2 ^ j * 2 ^ j) * (2 ^ j * 2 ^ j) ≡ b * (2 ^ j * 2 ^ j) = ap (λ n. n * (2 ^ j * 2 ^ j)) e in
+          (omega arith, omega arith)),
+    )

@@ -212,15 +212,4 @@ pub fn square_values(x: Coord, y: Coord, order: u32) -> (CurveValue, CurveValue)
 }
 
 #[cfg(test)]
-mod tests {
-    use super::*;
-
-    #[test]
-    fn corners(rt: HostRuntime) {
-        assert_eq!(rt; value(65535, 0), 4294967295);
-        assert_eq!(rt; point_of(4294967295), (65535, 0));
-        assert_eq!(rt; value(0, 0), 0);
-        assert_eq!(rt; compare((0, 0), (65535, 0)), Ordering::Less);
-        assert_eq!(rt; cell(255, 255), 0);
-    }
-}
+mod tests;

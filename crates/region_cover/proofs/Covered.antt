@@ -28,9 +28,9 @@ covered r part ranges part_in met adds v = (to, from)
     from h = elim ((adds v).0 h) [
       | inl a ↦ absurd (none_among v a)
       | inr b ↦
-        let x_in : b.0.0 < 65536 = omega (arith, b.1.0.1, part_in.0.1) in
-        let y_in : b.0.1 < 65536 = omega (arith, b.1.1.1, part_in.1.1) in
-        (record { x = b.0.0; y = b.0.1 }, x_in, y_in, omega (arith, b.2), (met b.0.0 b.0.1 x_in y_in).0 b.1)
+          let x_in : b.0.0 < 65536 = omega (arith, b.1.0.1, part_in.0.1) in
+          let y_in : b.0.1 < 65536 = omega (arith, b.1.1.1, part_in.1.1) in
+          (record { x = b.0.0; y = b.0.1 }, x_in, y_in, omega (arith, b.2), (met b.0.0 b.0.1 x_in y_in).0 b.1)
     ]
 
 -- and the cells of the ranges are those that meet the rectangle

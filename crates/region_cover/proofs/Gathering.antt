@@ -25,17 +25,17 @@ among-snoc xs y v = (to, from)
     to h = elim (cases_lt h.0 (length xs)) [
       | inl p ↦ inl (h.0, h.1, p, sym (get_or_append_left xs (y ∷ []) h.1 h.0 p) ∙ h.3, h.4)
       | inr p ↦
-        let len = length-snoc xs y in
-        let at : h.0 ≡ length xs = omega (arith, h.2) in
-        let is : h.1 ≡ y = sym h.3 ∙ ap (λ k. get_or (xs ++ y ∷ []) k h.1) at ∙ get_or-append_seam xs y [] h.1 in
-        inr (subst (λ (r : Range). (r.lo ≤ v) × (v ≤ r.hi)) is h.4)
+          let len = length-snoc xs y in
+          let at : h.0 ≡ length xs = omega (arith, h.2) in
+          let is : h.1 ≡ y = sym h.3 ∙ ap (λ k. get_or (xs ++ y ∷ []) k h.1) at ∙ get_or-append_seam xs y [] h.1 in
+          inr (subst (λ (r : Range). (r.lo ≤ v) × (v ≤ r.hi)) is h.4)
     ]
 
     from : IsAmong xs v ⊎ ((y.lo ≤ v) × (v ≤ y.hi)) → IsAmong (xs ++ y ∷ []) v
     from h = elim h [
       | inl a ↦
-        let len = length-snoc xs y in
-        (a.0, a.1, omega (arith, a.2), get_or_append_left xs (y ∷ []) a.1 a.0 a.2 ∙ a.3, a.4)
+          let len = length-snoc xs y in
+          (a.0, a.1, omega (arith, a.2), get_or_append_left xs (y ∷ []) a.1 a.0 a.2 ∙ a.3, a.4)
       | inr b ↦ Any-push (λ (r : Range). (r.lo ≤ v) × (v ≤ r.hi)) xs y b
     ]
 
@@ -75,7 +75,7 @@ runs-snoc n xs y h = record {
     apart = all_pairs_push (λ (a b : Range). a.hi + 1 < b.lo) xs y h.runs.apart h.apart;
   };
   below = All-push (λ (r : Range). r.hi < n) xs y
-  (λ k d p. let a = h.apart k d p in omega (arith, h.filled, h.below)) h.below;
+      (λ k d p. let a = h.apart k d p in omega (arith, h.filled, h.below)) h.below;
 }
 
 -- a list's last place, changed
@@ -109,14 +109,16 @@ prolonged xs n lo hi last len is runs next up v =
         let ends = ends_in lo front last (rw e at below) in
         let old = among-snoc front last v in
         let new = among-snoc front (record { lo = last.lo; hi = hi }) v in
-        rw e ((λ h. elim (new.0 h) [
-          | inl a ↦ inl (old.1 (inl a))
-          | inr b ↦ elim (cases_lt v lo) [ inl p ↦ inl (old.1 (inr (b.0, omega arith))) | inr p ↦ inr (p, b.1) ]
-        ]),
-        (λ h. elim h [
-          | inl a ↦ elim (old.0 a) [ inl b ↦ new.1 (inl b) | inr b ↦ new.1 (inr (b.0, omega arith)) ]
-          | inr b ↦ new.1 (inr (omega (arith, ends.filled), b.1))
-        ]))
+        rw e (
+          (λ h. elim (new.0 h) [
+            | inl a ↦ inl (old.1 (inl a))
+            | inr b ↦ elim (cases_lt v lo) [ inl p ↦ inl (old.1 (inr (b.0, omega arith))) | inr p ↦ inr (p, b.1) ]
+          ]),
+          (λ h. elim h [
+            | inl a ↦ elim (old.0 a) [ inl b ↦ new.1 (inl b) | inr b ↦ new.1 (inr (b.0, omega arith)) ]
+            | inr b ↦ new.1 (inr (omega (arith, ends.filled), b.1))
+          ]),
+        )
 
 -- the last place of a list has one range, whatever stands for a place past the end
 pub last_is : (xs : List Range) (n : ℕ) (a b : Range) → n < length xs → a ≡ get_or xs n a → b ≡ get_or xs n b → a ≡ b
@@ -130,14 +132,14 @@ after_gap xs lo hi h up gap = runs-snoc (hi + 1) xs (record { lo = lo; hi = hi }
   runs = h.runs;
   apart = λ k d p. elim (cases_lt (k + 1) (length xs)) [
     | inl q ↦
-      let a = h.runs.apart k (length xs - 1) d (omega arith) (omega arith) in
-      let f = h.runs.filled (length xs - 1) d (omega arith) in
-      let b = h.below (length xs - 1) d (omega arith) in
-      omega (arith, a, f, b)
+        let a = h.runs.apart k (length xs - 1) d (omega arith) (omega arith) in
+        let f = h.runs.filled (length xs - 1) d (omega arith) in
+        let b = h.below (length xs - 1) d (omega arith) in
+        omega (arith, a, f, b)
     | inr q ↦
-      let ne : (get_or xs k d).hi + 1 ≢ lo = gap k (get_or xs k d) (omega arith) (get_or_default xs k d (get_or xs k d) p) in
-      let b = h.below k d p in
-      omega (arith, ne, b)
+        let ne : (get_or xs k d).hi + 1 ≢ lo = gap k (get_or xs k d) (omega arith) (get_or_default xs k d (get_or xs k d) p) in
+        let b = h.below k d p in
+        omega (arith, ne, b)
   ];
   filled = up;
   below = omega arith;
@@ -151,18 +153,20 @@ pub Adds-none : (more : ℕ → Type 0) (xs : List Range) → ((v : ℕ) → mor
 Adds-none more xs none v = ((λ h. inl h), (λ h. elim h [ inl a ↦ a | inr b ↦ absurd (none v b) ]))
 
 pub Adds-same : (more other : ℕ → Type 0) (old new : List Range) → ((v : ℕ) → more v ↔ other v) → Adds more old new → Adds other old new
-Adds-same more other old new same adds v =
-    ((λ h. elim ((adds v).0 h) [ inl a ↦ inl a | inr b ↦ inr ((same v).0 b) ]),
-    (λ h. (adds v).1 (elim h [ inl a ↦ inl a | inr b ↦ inr ((same v).1 b) ])))
+Adds-same more other old new same adds v = (
+  (λ h. elim ((adds v).0 h) [ inl a ↦ inl a | inr b ↦ inr ((same v).0 b) ]),
+  (λ h. (adds v).1 (elim h [ inl a ↦ inl a | inr b ↦ inr ((same v).1 b) ])),
+)
 
 pub Adds-both : (one two both : ℕ → Type 0) (old middle new : List Range) → ((v : ℕ) → both v ↔ (one v ⊎ two v))
     → Adds one old middle → Adds two middle new → Adds both old new
-Adds-both one two both old middle new is first second v =
-    ((λ h. elim ((second v).0 h) [
-      | inl a ↦ elim ((first v).0 a) [ inl b ↦ inl b | inr b ↦ inr ((is v).1 (inl b)) ]
-      | inr a ↦ inr ((is v).1 (inr a))
-    ]),
-    (λ h. elim h [
-      | inl a ↦ (second v).1 (inl ((first v).1 (inl a)))
-      | inr a ↦ elim ((is v).0 a) [ inl b ↦ (second v).1 (inl ((first v).1 (inr b))) | inr b ↦ (second v).1 (inr b) ]
-    ]))
+Adds-both one two both old middle new is first second v = (
+  (λ h. elim ((second v).0 h) [
+    | inl a ↦ elim ((first v).0 a) [ inl b ↦ inl b | inr b ↦ inr ((is v).1 (inl b)) ]
+    | inr a ↦ inr ((is v).1 (inr a))
+  ]),
+  (λ h. elim h [
+    | inl a ↦ (second v).1 (inl ((first v).1 (inl a)))
+    | inr a ↦ elim ((is v).0 a) [ inl b ↦ (second v).1 (inl ((first v).1 (inr b))) | inr b ↦ (second v).1 (inr b) ]
+  ]),
+)

@@ -23,9 +23,10 @@ pub same_cell : (x y p q : ℕ) → x < 65536 → y < 65536 → p < 65536 → q 
     → (cell_number p q ≡ cell_number x y) ↔ ((p / 256 ≡ x / 256) × (q / 256 ≡ y / 256))
 same_cell x y p q a b c d =
     let e : cell_number x y ≡ curve_value 8 (x / 256) (y / 256) = curve_value-coarse 8 8 x y a b in
-    let f : cell_number p q ≡ curve_value 8 (p / 256) (q / 256) = curve_value-coarse 8 8 p q c d in
-    ((λ h. two (curve_value-injective 8 (p / 256) (q / 256) (x / 256) (y / 256) (omega arith) (omega arith) (omega arith) (omega arith) (sym f ∙ h ∙ e))),
-    (λ h. f ∙ same _ _ _ _ h.0 h.1 ∙ sym e))
+    let f : cell_number p q ≡ curve_value 8 (p / 256) (q / 256) = curve_value-coarse 8 8 p q c d in (
+      (λ h. two (curve_value-injective 8 (p / 256) (q / 256) (x / 256) (y / 256) (omega arith) (omega arith) (omega arith) (omega arith) (sym f ∙ h ∙ e))),
+      (λ h. f ∙ same _ _ _ _ h.0 h.1 ∙ sym e),
+    )
   where
     two : {a b c d : ℕ} → ◌≡◌ {A = ℕ × ℕ} (a, b) (c, d) → (a ≡ c) × (b ≡ d)
     two e = (ap (λ w. w.0) e, ap (λ w. w.1) e)

@@ -63,17 +63,17 @@ quadrant_values q k first v part p q_in part_in p_in inner = (to, from)
         let below = curve_value-lt k there.x_there there.y_there there.x_below there.y_below in
         elim (cases_order there.quadrant q) [
           | inl e ↦
-            let at : raised (2 ^ k) q there.x_there there.y_there ≡ h.0.0 = ap (λ n. raised (2 ^ k) n there.x_there there.y_there) (sym e) ∙ there.point in
-            let inside = (inner there.x_there there.y_there there.x_below there.y_below).1 (subst (Has part) (sym at) has) in
-            let same : there.quadrant * 2 ^ k * 2 ^ k ≡ q * 2 ^ k * 2 ^ k = ap (λ n. n * 2 ^ k * 2 ^ k) e in
-            inr ((there.x_there, there.y_there), inside, omega (arith, there.value, h.0.2, same))
+              let at : raised (2 ^ k) q there.x_there there.y_there ≡ h.0.0 = ap (λ n. raised (2 ^ k) n there.x_there there.y_there) (sym e) ∙ there.point in
+              let inside = (inner there.x_there there.y_there there.x_below there.y_below).1 (subst (Has part) (sym at) has) in
+              let same : there.quadrant * 2 ^ k * 2 ^ k ≡ q * 2 ^ k * 2 ^ k = ap (λ n. n * 2 ^ k * 2 ^ k) e in
+              inr ((there.x_there, there.y_there), inside, omega (arith, there.value, h.0.2, same))
           | inr o ↦ elim o [
             | inl less ↦
-              let up = product_up (there.quadrant + 1) q (2 ^ k) (2 ^ k) (omega arith) in
-              inl (h.0, omega (arith, there.value, h.0.2, up, below))
+                let up = product_up (there.quadrant + 1) q (2 ^ k) (2 ^ k) (omega arith) in
+                inl (h.0, omega (arith, there.value, h.0.2, up, below))
             | inr more ↦ absurd (
-              let up = product_up (q + 1) there.quadrant (2 ^ k) (2 ^ k) (omega arith) in
-              omega (arith, there.value, h.0.2, h.1, up))
+                let up = product_up (q + 1) there.quadrant (2 ^ k) (2 ^ k) (omega arith) in
+                omega (arith, there.value, h.0.2, h.1, up))
           ]
         ]
 
@@ -81,12 +81,12 @@ quadrant_values q k first v part p q_in part_in p_in inner = (to, from)
     from h = elim h [
       | inl a ↦ let up = product_up q (q + 1) (2 ^ k) (2 ^ k) (omega arith) in (a.0, omega (arith, a.1, up))
       | inr b ↦
-        let u_in : b.0.0 < 2 ^ k = omega (arith, b.1.0.1, p_in.0.1) in
-        let w_in : b.0.1 < 2 ^ k = omega (arith, b.1.1.1, p_in.1.1) in
-        let has = (inner b.0.0 b.0.1 u_in w_in).0 b.1 in
-        let value = curve_value-raised k q b.0.0 b.0.1 q_in u_in w_in in
-        let below = curve_value-lt k b.0.0 b.0.1 u_in w_in in
-        ((raised (2 ^ k) q b.0.0 b.0.1, has, omega (arith, value, b.2)), omega (arith, b.2, below))
+          let u_in : b.0.0 < 2 ^ k = omega (arith, b.1.0.1, p_in.0.1) in
+          let w_in : b.0.1 < 2 ^ k = omega (arith, b.1.1.1, p_in.1.1) in
+          let has = (inner b.0.0 b.0.1 u_in w_in).0 b.1 in
+          let value = curve_value-raised k q b.0.0 b.0.1 q_in u_in w_in in
+          let below = curve_value-lt k b.0.0 b.0.1 u_in w_in in
+          ((raised (2 ^ k) q b.0.0 b.0.1, has, omega (arith, value, b.2)), omega (arith, b.2, below))
     ]
 
 -- a quadrant where the part has nothing
@@ -103,15 +103,15 @@ no_quadrant_values q k first v part part_in inner = (to, from)
         let below = curve_value-lt k there.x_there there.y_there there.x_below there.y_below in
         elim (cases_order there.quadrant q) [
           | inl e ↦
-            let at : raised (2 ^ k) q there.x_there there.y_there ≡ h.0.0 = ap (λ n. raised (2 ^ k) n there.x_there there.y_there) (sym e) ∙ there.point in
-            absurd ((inner there.x_there there.y_there there.x_below there.y_below).1 (subst (Has part) (sym at) has))
+              let at : raised (2 ^ k) q there.x_there there.y_there ≡ h.0.0 = ap (λ n. raised (2 ^ k) n there.x_there there.y_there) (sym e) ∙ there.point in
+              absurd ((inner there.x_there there.y_there there.x_below there.y_below).1 (subst (Has part) (sym at) has))
           | inr o ↦ elim o [
             | inl less ↦
-              let up = product_up (there.quadrant + 1) q (2 ^ k) (2 ^ k) (omega arith) in
-              (h.0, omega (arith, there.value, h.0.2, up, below))
+                let up = product_up (there.quadrant + 1) q (2 ^ k) (2 ^ k) (omega arith) in
+                (h.0, omega (arith, there.value, h.0.2, up, below))
             | inr more ↦ absurd (
-              let up = product_up (q + 1) there.quadrant (2 ^ k) (2 ^ k) (omega arith) in
-              omega (arith, there.value, h.0.2, h.1, up))
+                let up = product_up (q + 1) there.quadrant (2 ^ k) (2 ^ k) (omega arith) in
+                omega (arith, there.value, h.0.2, h.1, up))
           ]
         ]
 
@@ -123,12 +123,15 @@ nothing_before k first part v h = absurd (omega (arith, h.0.2, h.1))
 
 -- before the end of the square lie all
 pub all_before : (order k first : ℕ) (part : Part) (v : ℕ) → order ≡ suc k → IsPart (2 ^ order) part → HasValueBefore 4 k first part v ↔ HasValue order first part v
-all_before order k first part v e part_in = rw e ((λ h. h.0), λ h.
-    let e' = e in
-    let x_in : h.0.0 < 2 ^ suc k = omega (arith, h.1.0.1, (rw e at part_in).0.1) in
-    let y_in : h.0.1 < 2 ^ suc k = omega (arith, h.1.1.1, (rw e at part_in).1.1) in
-    let below = curve_value-lt (suc k) h.0.0 h.0.1 x_in y_in in
-    (h, omega (arith, h.2, below, square-suc k)))
+all_before order k first part v e part_in = rw e (
+  (λ h. h.0),
+  λ h.
+      let e' = e in
+      let x_in : h.0.0 < 2 ^ suc k = omega (arith, h.1.0.1, (rw e at part_in).0.1) in
+      let y_in : h.0.1 < 2 ^ suc k = omega (arith, h.1.1.1, (rw e at part_in).1.1) in
+      let below = curve_value-lt (suc k) h.0.0 h.0.1 x_in y_in in
+      (h, omega (arith, h.2, below, square-suc k)),
+)
 
 -- a part that isn't the whole lies in a square of more than one point
 pub not_whole : (order side : ℕ) (part : Part) (b : Bool) → side ≡ 2 ^ order → IsPart (2 ^ order) part

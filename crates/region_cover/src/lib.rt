@@ -33,7 +33,12 @@ fn cells_met(rect: &Rect) -> Part
 // Adds the values of a part of a square of the curve, whose values begin at
 // `first`. A whole square is one run of values, and else its quadrants are
 // visited in the order of the curve.
-fn add_part(order: u32, first: CurveValue, part: Part, ranges: &mut Vec<Range>) -> Result<(), AllocError>
+fn add_part(
+    order: u32,
+    first: CurveValue,
+    part: Part,
+    ranges: &mut Vec<Range>,
+) -> Result<(), AllocError>
     requires order_in { order ≤ ORDER }
     requires part_in { IsPart (2 ^ order) part }
     requires room { first + 2 ^ order * 2 ^ order ≤ 2 ^ ORDER * 2 ^ ORDER }
@@ -75,3 +80,6 @@ pub fn meets(cell: CellNumber, rect: &Rect) -> bool
     let (x, y) = point_of(CurveValue::from(cell) << (2 * CELL_ORDER));
     cells_met(rect).has(x, y)
 }
+
+#[cfg(test)]
+mod tests;

@@ -25,7 +25,11 @@ impl Range {
 }
 
 // Adds the values from one to another to runs that are all below them.
-pub(crate) fn add_run(ranges: &mut Vec<Range>, lo: CurveValue, hi: CurveValue) -> Result<(), AllocError>
+pub(crate) fn add_run(
+    ranges: &mut Vec<Range>,
+    lo: CurveValue,
+    hi: CurveValue,
+) -> Result<(), AllocError>
     requires filled { lo ≤ hi }
     requires below { AreRunsBelow lo ranges.old.items }
     ensures runs { OnOk result (AreRunsBelow (hi + 1) ranges.new.items) }

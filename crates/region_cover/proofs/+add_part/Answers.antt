@@ -45,9 +45,19 @@ overflow_add-first-in-Some t c =
 pub add_part-requires : goal.add_part-requires
 add_part-requires t c =
     let e = not_whole c.args.order c.side-whole.result c.args.part c.is_whole.result c.side-whole.ensures c.requires.part_in c.is_whole.ensures c.if-is_whole.false in
-    let room = quadrant_room c.args.order (c.args.order - 1) c.args.first c.loop-quadrant.quadrant c.side-half.result (2 ^ 32) e c.side-half.ensures c.loop-quadrant-test.true c.requires.room in
-    (omega (arith, e), (omega arith, (subst (λ n. IsPart n c.in-Some.inner) c.side-half.ensures c.in-Some.ensures.part, (room,
-    subst (λ n. AreRunsBelow (c.args.first + c.loop-quadrant.quadrant * n * n) c.loop-quadrant.ranges.items) (sym c.side-half.ensures) c.loop-quadrant.invariant.runs))))
+    let room = quadrant_room c.args.order (c.args.order - 1) c.args.first c.loop-quadrant.quadrant c.side-half.result (2 ^ 32) e c.side-half.ensures c.loop-quadrant-test.true c.requires.room in (
+      omega (arith, e),
+      (
+        omega arith,
+        (
+          subst (λ n. IsPart n c.in-Some.inner) c.side-half.ensures c.in-Some.ensures.part,
+          (
+            room,
+            subst (λ n. AreRunsBelow (c.args.first + c.loop-quadrant.quadrant * n * n) c.loop-quadrant.ranges.items) (sym c.side-half.ensures) c.loop-quadrant.invariant.runs,
+          ),
+        ),
+      ),
+    )
 
 pub loop-quadrant-preserved : goal.loop-quadrant-preserved
 loop-quadrant-preserved t c =
@@ -56,12 +66,12 @@ loop-quadrant-preserved t c =
       | in-Some+in_ok-add_part w ↦ rw w.ranges-is record {
         runs = subst (λ n. AreRunsBelow n w.add_part.new.ranges.items) (next_quadrant c.args.first c.loop-quadrant.quadrant c.side-half.result (c.args.order - 1) c.side-half.ensures) w.in_ok-add_part.ensures.runs;
         adds = with_quadrant c.args.order (c.args.order - 1) c.args.first c.loop-quadrant.quadrant c.side-half.result c.args.part w.in-Some.inner _ _ _ e c.side-half.ensures c.loop-quadrant-test.true
-        c.requires.part_in w.in-Some.ensures.part w.in-Some.ensures.exactly c.loop-quadrant.invariant.adds w.in_ok-add_part.ensures.adds;
+            c.requires.part_in w.in-Some.ensures.part w.in-Some.ensures.exactly c.loop-quadrant.invariant.adds w.in_ok-add_part.ensures.adds;
       }
       | in_default w ↦ rw w.ranges-is record {
         runs = AreRunsBelow-up _ _ c.loop-quadrant.ranges.items (omega (arith, next_quadrant c.args.first c.loop-quadrant.quadrant c.side-half.result (c.args.order - 1) c.side-half.ensures)) c.loop-quadrant.invariant.runs;
         adds = without_quadrant c.args.order (c.args.order - 1) c.args.first c.loop-quadrant.quadrant c.side-half.result c.args.part c.in_quadrant.result _ _ e c.side-half.ensures
-        c.requires.part_in (is_none c.in_quadrant.result w.in_default.not-Some) c.in_quadrant.ensures.exactly c.loop-quadrant.invariant.adds;
+            c.requires.part_in (is_none c.in_quadrant.result w.in_default.not-Some) c.in_quadrant.ensures.exactly c.loop-quadrant.invariant.adds;
       }
     ]
 

@@ -8,7 +8,7 @@ pub returns-clause-cover : goal.returns-clause-cover
 returns-clause-cover c = record {
   runs = c.in_ok-add_part.ensures.runs.runs;
   exactly = covered c.args.rect.now c.cells_met.result c.add_part.new.ranges.items c.cells_met.ensures.part c.cells_met.ensures.exactly
-  (subst (λ (old : List Range). Adds (HasValue 16 0 c.cells_met.result) old c.add_part.new.ranges.items) c.new-ranges.ensures.items c.in_ok-add_part.ensures.adds);
+      (subst (λ (old : List Range). Adds (HasValue 16 0 c.cells_met.result) old c.add_part.new.ranges.items) c.new-ranges.ensures.items c.in_ok-add_part.ensures.adds);
 }
 
 pub returns-clause-cells : goal.returns-clause-cells

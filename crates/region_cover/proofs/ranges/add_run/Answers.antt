@@ -17,10 +17,10 @@ returns-in_ok-push-clause-runs c =
     let gap : (n : ℕ) (last : Range) → n + 1 ≡ length c.args.ranges.now.items → last ≡ get_or c.args.ranges.now.items n last → last.hi + 1 ≢ c.args.lo =
     λ n last len is. elim c.else-len-gt0.branch [
       | else-len-gt0-via-then-len-gt0+else-index-lo w ↦ λ e.
-        let at : n ≡ c.len-len.result - 1 = omega arith in
-        let there : last ≡ get_or c.args.ranges.now.items (c.len-len.result - 1) last = is ∙ ap (λ k. get_or c.args.ranges.now.items k last) at in
-        let same = last_is c.args.ranges.now.items (c.len-len.result - 1) last w.index.result.now (omega arith) there w.index.ensures in
-        w.if-index-lo.false (ap (λ (r : Range). r.hi + 1) (sym same) ∙ e)
+          let at : n ≡ c.len-len.result - 1 = omega arith in
+          let there : last ≡ get_or c.args.ranges.now.items (c.len-len.result - 1) last = is ∙ ap (λ k. get_or c.args.ranges.now.items k last) at in
+          let same = last_is c.args.ranges.now.items (c.len-len.result - 1) last w.index.result.now (omega arith) there w.index.ensures in
+          w.if-index-lo.false (ap (λ (r : Range). r.hi + 1) (sym same) ∙ e)
       | else-len-gt0-via-else-len-gt0 w ↦ absurd (omega arith)
     ] in
     rw c.in_ok-push.ensures.items (after_gap c.args.ranges.now.items c.args.lo c.args.hi c.requires.below c.requires.filled gap)
