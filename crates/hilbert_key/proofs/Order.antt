@@ -1,10 +1,8 @@
-use Rattle.std.proofs.Common.{◌≡◌, ℕ, zero, suc, ◌+◌, ◌-◌, ◌*◌, ◌^◌, ◌<◌, ◌≤◌, ◌≢◌, arith, ap, sym, ◌∙◌, inl, inr}
+use Rattle.std.proofs.Common.{◌≡◌, ℕ, zero, suc, ◌+◌, ◌-◌, ◌*◌, ◌^◌, ◌<◌, ◌≢◌, arith, inl, inr}
 use Rattle.std.specs.Ordering.{nat_cmp}
-use Rattle.std.proofs.Math.Nat.{mul-le-mul_left}
 use Rattle.std.proofs.lemmas.Bool.{cases_order}
 use Rattle.std.proofs.lemmas.Bool.Decides.{nat_tests}
 use Rattle.hilbert_key.specs.Curve.{curve_value}
-use Rattle.hilbert_key.specs.laws.Bounds.{curve_value-lt}
 use Rattle.hilbert_key.specs.laws.Points.{digit_lt}
 
 pub cmp-digits : (n q r u v : ℕ) → q ≢ r → u < n → v < n → nat_cmp q r ≡ nat_cmp (q * n + u) (r * n + v)

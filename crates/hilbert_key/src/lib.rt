@@ -2,7 +2,7 @@
 //! the order of two points along it.
 #![tactic(auto)]
 
-ghost use Rattle.std.specs.Prelude.{◌≡◌, ℕ, suc, ◌+◌, ◌-◌, ◌*◌, ◌/◌, ◌^◌, ◌<◌, ◌≤◌, ◌↔◌};
+ghost use Rattle.std.specs.Prelude.{◌≡◌, ℕ, suc, ◌+◌, ◌-◌, ◌*◌, ◌/◌, ◌^◌, ◌<◌, ◌≤◌, ◌↔◌, IsTrue, if◌then◌else◌};
 ghost use Rattle.std.specs.Ordering.{nat_cmp};
 ghost use Rattle.hilbert_key.specs.Curve.{curve_value};
 ghost use Rattle.hilbert_key.specs.Cells.{cell_number};
@@ -42,7 +42,30 @@ struct Descent {
     y: CurveValue,
 }
 
-#[tactic(auto, using(crate::specs::laws::Quadrants::lower_left, crate::specs::laws::Quadrants::upper_left, crate::specs::laws::Quadrants::upper_right, crate::specs::laws::Quadrants::lower_right, crate::specs::laws::Quadrants::side_fits))]
+// One of two numbers. A choice between numbers needs no jump, and jumps
+// that depend on a point are mostly guessed wrong.
+fn choice(test: bool, one: CurveValue, other: CurveValue) -> CurveValue
+    ensures { result ≡ (if test then one else other) }
+{
+    if test { one } else { other }
+}
+
+// Where a coordinate lies in its half of a side.
+fn within_half(is_upper: bool, n: CurveValue, half: CurveValue) -> CurveValue
+    requires { IsTrue is_upper → half ≤ n }
+    ensures { result ≡ (if is_upper then n - half else n) }
+{
+    n - choice(is_upper, half, 0)
+}
+
+// A place counted from the other end of a half, where the quadrant is turned.
+fn turned(is_turned: bool, n: CurveValue, half: CurveValue) -> CurveValue
+    requires { n < half }
+    ensures { result ≡ (if is_turned then half - 1 - n else n) }
+{
+    choice(is_turned, half - 1 - n, n)
+}
+
 fn descend(level: u32, x: CurveValue, y: CurveValue) -> Descent
     requires level_in { level < ORDER }
     requires x_in { x < 2 ^ suc level }
@@ -53,32 +76,16 @@ fn descend(level: u32, x: CurveValue, y: CurveValue) -> Descent
     ensures value { curve_value (suc level) x y ≡ result.quadrant * 2 ^ level * 2 ^ level + curve_value level result.x result.y }
 {
     let half = side(level);
-    if x < half {
-        if y < half {
-            Descent {
-                quadrant: 0,
-                x: y,
-                y: x,
-            }
-        } else {
-            Descent {
-                quadrant: 1,
-                x,
-                y: y - half,
-            }
-        }
-    } else if y < half {
-        Descent {
-            quadrant: 3,
-            x: half - 1 - y,
-            y: 2 * half - 1 - x,
-        }
-    } else {
-        Descent {
-            quadrant: 2,
-            x: x - half,
-            y: y - half,
-        }
+    let is_right = x >= half;
+    let is_upper = y >= half;
+    let across = within_half(is_right, x, half);
+    let up = within_half(is_upper, y, half);
+    // `&&` would be a jump.
+    let is_turned = is_right & !is_upper;
+    Descent {
+        quadrant: choice(is_right, choice(is_upper, 2, 3), choice(is_upper, 1, 0)),
+        x: turned(is_turned, choice(is_upper, across, up), half),
+        y: turned(is_turned, choice(is_upper, up, across), half),
     }
 }
 

@@ -1,9 +1,8 @@
 -- From the values of the cells that a rectangle meets to its cover.
-use Rattle.std.proofs.Common.{◌≡◌, ℕ, ◌+◌, ◌*◌, ◌/◌, ◌^◌, ◌<◌, ◌≤◌, ◌↔◌, ◌⊎◌, inl, inr, List, [], arith, ap, sym, ◌∙◌, subst, refl}
+use Rattle.std.proofs.Common.{◌≡◌, ℕ, ◌*◌, ◌/◌, ◌<◌, ◌≤◌, ◌↔◌, inl, inr, List, [], arith, ap, ◌∙◌, subst, refl}
 use Rattle.std.specs.List.{All}
 use Rattle.std.proofs.lemmas.Bool.{cases_lt}
 use Rattle.geo_base.specs.Corners.{Corners}
-use Rattle.geo_base.specs.declared.points.Point.{Point}
 use Rattle.hilbert_key.specs.Curve.{curve_value}
 use Rattle.hilbert_key.specs.Cells.{cell_number}
 use Rattle.region_cover.specs.Cover.{CellMeets, IsCovered, IsAmong, IsCellAmong}

@@ -1,16 +1,14 @@
 -- The values of the parts of a square of the curve.
-use Rattle.std.proofs.Common.{◌≡◌, ℕ, zero, suc, ◌+◌, ◌-◌, ◌*◌, ◌/◌, ◌%◌, ◌^◌, ◌<◌, ◌≤◌, ◌↔◌, ◌⊎◌, inl, inr, arith, ap, sym, ◌∙◌, subst, refl, List, Option, Some, None, Bool, true, false, IsTrue}
+use Rattle.std.proofs.Common.{◌≡◌, ℕ, zero, suc, ◌+◌, ◌-◌, ◌*◌, ◌^◌, ◌<◌, ◌≤◌, ◌↔◌, ◌⊎◌, inl, inr, arith, ap, sym, ◌∙◌, subst, refl, List, Option, Some, None, Bool, true, false, IsTrue}
 use Rattle.std.specs.Option.{IsSomeAnd}
-use Rattle.std.proofs.Math.Nat.{mul-le-mul_left, pow-succ'}
+use Rattle.std.proofs.Math.Nat.{mul-le-mul_left}
 use Rattle.std.proofs.lemmas.Nat.{pow_pos}
-use Rattle.std.proofs.lemmas.Bool.{cases_lt, cases_order}
-use Rattle.hilbert_key.specs.Curve.{curve_value}
+use Rattle.std.proofs.lemmas.Bool.{cases_order}
 use Rattle.hilbert_key.specs.laws.Quadrants.{raised, lies, curve_value-raised}
 use Rattle.hilbert_key.specs.laws.Bounds.{curve_value-lt, square-suc}
 use Rattle.hilbert_key.specs.laws.Points.{point_at}
-use Rattle.region_cover.specs.Cover.{IsAmong}
 use Rattle.region_cover.proofs.Gathering.{Adds-both, Adds-same}
-use Rattle.region_cover.specs.Steps.{IsIn, IsSpan, Has, IsPart, HasValue, Adds}
+use Rattle.region_cover.specs.Steps.{Has, IsPart, HasValue, Adds}
 use Rattle.region_cover.specs.declared.ranges.Range.{Range}
 use Rattle.region_cover.specs.declared.parts.Part.{Part}
 

@@ -1,4 +1,4 @@
-use Rattle.std.proofs.Common.{ℕ, ◌<◌, ◌*◌, ◌/◌, ◌^◌, arith}
+use Rattle.std.proofs.Common.{◌<◌, ◌/◌, arith}
 use Rattle.std.proofs.lemmas.Nat.{div_below}
 use Rattle.hilbert_key.specs.Curve.{curve_value}
 use Rattle.hilbert_key.specs.laws.Bounds.{curve_value-lt}

@@ -1,10 +1,9 @@
-use Rattle.std.proofs.Common.{◌≡◌, ℕ, suc, ◌+◌, ◌-◌, ◌*◌, ◌^◌, ◌<◌, ◌≤◌, ◌↔◌, ◌⊎◌, IsTrue, OnOk, List, Option, Some, None, Result, Ok, Err, arith, rules, subst, sym, ap, ◌∙◌, refl, true}
+use Rattle.std.proofs.Common.{◌≡◌, ℕ, suc, ◌+◌, ◌-◌, ◌*◌, ◌^◌, OnOk, Result, Ok, Err, arith, subst, sym, ap, ◌∙◌}
 use Rattle.std.proofs.Math.Nat.{pow-succ'}
 use Rattle.region_cover.specs.Steps.{IsPart, HasValue, AreRunsBelow, Adds}
-use Rattle.region_cover.specs.declared.ranges.Range.{Range}
 use Rattle.region_cover.specs.declared.parts.Part.{Part}
-use Rattle.region_cover.proofs.Gathering.{AreRunsBelow-up, Adds-same, Adds-both, Adds-none}
-use Rattle.region_cover.proofs.Values.{HasValueBefore, IsInner, not_whole, quadrant_room, quadrant_below, with_quadrant, without_quadrant, is_none, all_before, next_quadrant, four_quadrants, whole_side}
+use Rattle.region_cover.proofs.Gathering.{AreRunsBelow-up, Adds-same}
+use Rattle.region_cover.proofs.Values.{HasValueBefore, not_whole, quadrant_room, quadrant_below, with_quadrant, without_quadrant, is_none, all_before, next_quadrant, four_quadrants, whole_side}
 use Rattle.region_cover.proofs.+add_part.Goals as goal
 use Rattle.region_cover.proofs.+add_part.Goals.{in-Some+in_ok-add_part, in_default}
 

@@ -1,4 +1,4 @@
-use Rattle.std.proofs.Common.{◌≡◌, ℕ, ◌<◌, ◌≤◌, arith}
+use Rattle.std.proofs.Common.{arith}
 use Rattle.region_cover.proofs.Meeting.{corners_meet}
 use Rattle.region_cover.proofs.cells_met.Goals as goal
 

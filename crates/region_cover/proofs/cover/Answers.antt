@@ -1,4 +1,4 @@
-use Rattle.std.proofs.Common.{◌≡◌, ℕ, ◌<◌, ◌≤◌, List, [], arith, subst}
+use Rattle.std.proofs.Common.{List, subst}
 use Rattle.region_cover.specs.Steps.{HasValue, Adds}
 use Rattle.region_cover.specs.declared.ranges.Range.{Range}
 use Rattle.region_cover.proofs.Covered.{covered, cells_covered}

@@ -1,6 +1,5 @@
-use Rattle.std.proofs.Common.{◌≡◌, ℕ, ◌*◌, ◌/◌, ◌<◌, ◌≤◌, arith, ap, ◌∙◌}
+use Rattle.std.proofs.Common.{◌≡◌, ◌/◌, arith, ap, ◌∙◌}
 use Rattle.hilbert_key.specs.Cells.{cell_number}
-use Rattle.region_cover.specs.Cover.{CellMeets}
 use Rattle.region_cover.proofs.meets.Goals as goal
 
 pub returns : goal.returns

@@ -1,5 +1,4 @@
-use Rattle.std.proofs.Common.{◌≡◌, ◌≢◌, ℕ, ◌+◌, ◌-◌, ◌<◌, ◌≤◌, List, [], ◌∷◌, ◌++◌, length, get_or, arith, sym, ◌∙◌, ap}
-use Rattle.region_cover.specs.Steps.{AreRunsBelow, Adds}
+use Rattle.std.proofs.Common.{◌≡◌, ◌≢◌, ℕ, ◌+◌, ◌-◌, length, get_or, arith, sym, ◌∙◌, ap}
 use Rattle.region_cover.specs.declared.ranges.Range.{Range}
 use Rattle.region_cover.proofs.Gathering.{prolonged, last_is, after_gap, among-snoc}
 use Rattle.region_cover.proofs.ranges.add_run.Goals as goal

@@ -1,5 +1,4 @@
-use Rattle.std.proofs.Common.{◌≡◌, ℕ, ◌+◌, ◌-◌, ◌*◌, ◌<◌, ◌≤◌, arith}
-use Rattle.hilbert_key.specs.laws.Quadrants.{raised}
+use Rattle.std.proofs.Common.{◌≡◌, ◌+◌, arith}
 use Rattle.region_cover.proofs.parts.Part.in_quadrant.Goals as goal
 
 -- The last quadrant is turned round: its coordinates count from the far ends.
