@@ -1,22 +1,11 @@
 -- The values of an aligned square are one stretch.
-use Rattle.std.proofs.Common.{◌≡◌, ℕ, zero, suc, ◌+◌, ◌-◌, ◌*◌, ◌/◌, ◌%◌, ◌^◌, ◌<◌, ◌≤◌, ◌↔◌, arith, ap, sym, ◌∙◌}
+use Rattle.std.proofs.Common.{◌≡◌, ℕ, suc, ◌+◌, ◌-◌, ◌*◌, ◌/◌, ◌%◌, ◌^◌, ◌<◌, ◌≤◌, ◌↔◌, arith, ap, sym, ◌∙◌}
 use Rattle.std.proofs.Math.Nat.{mul-le-mul_left}
 use Rattle.std.proofs.lemmas.Nat.{pow-add, pow_pos, div-mul-add, div-add-mod', mod_below}
 use Rattle.hilbert_key.specs.Curve.{curve_value}
-use Rattle.hilbert_key.specs.laws.Bounds.{curve_value-lt}
+use Rattle.hilbert_key.specs.laws.Bounds.{curve_value-lt, square_pos, last_place}
 use Rattle.hilbert_key.specs.laws.Points.{curve_value-injective}
 use Rattle.hilbert_key.specs.laws.Squares.{curve_value-coarse, cell-below}
-
--- the last place in a square of side s, from its first
-pub last_of : (s : ℕ) → 0 < s → (s - 1) * s + (s - 1) + 1 ≡ s * s
-last_of zero h = absurd (omega arith)
-last_of (suc m) h = let i : suc m - 1 ≡ m = omega arith in rw i (omega arith)
-
-square_pos : (j : ℕ) → 0 < 2 ^ j * 2 ^ j
-square_pos j =
-    let p : 1 ≤ 2 ^ j = pow_pos j in
-    let t : 2 ^ j * 1 ≤ 2 ^ j * 2 ^ j = mul-le-mul_left (2 ^ j) p in
-    omega arith
 
 -- a square ends within the whole
 pub stretch_fits : (k j before : ℕ) → before < 2 ^ k * 2 ^ k → before * 2 ^ j * 2 ^ j + 2 ^ j * 2 ^ j ≤ 2 ^ (k + j) * 2 ^ (k + j)
@@ -53,7 +42,7 @@ stretch_is k j x y p q a b c d =
 pub within_stretch : (j before v : ℕ) → ((before * 2 ^ j * 2 ^ j ≤ v) × (v ≤ before * 2 ^ j * 2 ^ j + ((2 ^ j - 1) * 2 ^ j + (2 ^ j - 1)))) ↔ (v / (2 ^ j * 2 ^ j) ≡ before)
 within_stretch j b v =
     let p = square_pos j in
-    let l = last_of (2 ^ j) (pow_pos j) in
+    let l = last_place (2 ^ j) (pow_pos j) in
     let whole : v / (2 ^ j * 2 ^ j) * (2 ^ j * 2 ^ j) + v % (2 ^ j * 2 ^ j) ≡ v = div-add-mod' v (2 ^ j * 2 ^ j) in
     let rest : v % (2 ^ j * 2 ^ j) < 2 ^ j * 2 ^ j = mod_below v (2 ^ j * 2 ^ j) p in (
       (λ h. let from : b * 2 ^ j * 2 ^ j ≤ v = h.0 in

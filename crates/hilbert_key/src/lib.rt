@@ -66,6 +66,7 @@ fn turned(is_turned: bool, n: CurveValue, half: CurveValue) -> CurveValue
     choice(is_turned, half - 1 - n, n)
 }
 
+// From a point of a square to the quadrant that it lies in, and its place there.
 fn descend(level: u32, x: CurveValue, y: CurveValue) -> Descent
     requires level_in { level < ORDER }
     requires x_in { x < 2 ^ suc level }
@@ -109,9 +110,11 @@ fn squares_before(x: Coord, y: Coord, order: u32) -> CurveValue
     squares
 }
 
-/// The place of a point on the curve.
+/// The place of a point on the curve: how many points the curve goes through
+/// before it, from (0, 0) on. The last point is (65535, 0).
 ///
-/// The curve is Hilbert's, from (0, 0) to (65535, 0).
+/// The curve is that of Hilbert, "Ueber die stetige Abbildung einer Linie auf
+/// ein Flächenstück" (1891), on a grid.
 pub fn value(x: Coord, y: Coord) -> CurveValue
     ensures { result ≡ curve_value ORDER x y }
 {
@@ -125,6 +128,7 @@ struct Place {
     y: CurveValue,
 }
 
+// The way back, from a place in a quadrant to the point of the square.
 #[tactic(auto, using(crate::specs::laws::Quadrants::raised_0, crate::specs::laws::Quadrants::raised_1, crate::specs::laws::Quadrants::raised_2, crate::specs::laws::Quadrants::raised_3, crate::specs::laws::Quadrants::side_fits))]
 fn ascend(level: u32, quadrant: CurveValue, x: CurveValue, y: CurveValue) -> Place
     requires level_in { level < ORDER }

@@ -1,3 +1,5 @@
+// Points, values and cells that were reckoned apart from the program.
+
 use super::{CELL_ORDER, cell, compare, point_of, square_values, value};
 use std::cmp::Ordering;
 

@@ -1,21 +1,17 @@
 -- The values of the parts of a square of the curve.
-use Rattle.std.proofs.Common.{◌≡◌, ℕ, zero, suc, ◌+◌, ◌-◌, ◌*◌, ◌^◌, ◌<◌, ◌≤◌, ◌↔◌, ◌⊎◌, inl, inr, arith, ap, sym, ◌∙◌, subst, refl, List, Option, Some, None, Bool, true, false, IsTrue}
-use Rattle.std.specs.Option.{IsSomeAnd}
+use Rattle.std.proofs.Common.{◌≡◌, ℕ, zero, suc, ◌+◌, ◌-◌, ◌*◌, ◌^◌, ◌<◌, ◌≤◌, ◌↔◌, ◌⊎◌, inl, inr, arith, rules, ap, sym, ◌∙◌, subst, refl, List, Option, Some, None, Bool, true, false, IsTrue}
+use Rattle.std.specs.Option.{IsSomeAnd, IfSome}
 use Rattle.std.proofs.Math.Nat.{mul-le-mul_left}
 use Rattle.std.proofs.lemmas.Nat.{pow_pos}
 use Rattle.std.proofs.lemmas.Bool.{cases_order}
+use Rattle.hilbert_key.specs.Curve.{curve_value}
 use Rattle.hilbert_key.specs.laws.Quadrants.{raised, lies, curve_value-raised}
-use Rattle.hilbert_key.specs.laws.Bounds.{curve_value-lt, square-suc}
+use Rattle.hilbert_key.specs.laws.Bounds.{curve_value-lt, square-suc, square_pos, last_place}
 use Rattle.hilbert_key.specs.laws.Points.{point_at}
 use Rattle.region_cover.proofs.Gathering.{Adds-both, Adds-same}
 use Rattle.region_cover.specs.Steps.{Has, IsPart, HasValue, Adds}
 use Rattle.region_cover.specs.declared.ranges.Range.{Range}
 use Rattle.region_cover.specs.declared.parts.Part.{Part}
-
--- the last place in a square of side s, from its first
-last_of : (s : ℕ) → 0 < s → (s - 1) * s + (s - 1) + 1 ≡ s * s
-last_of zero h = absurd (omega arith)
-last_of (suc m) h = let i : suc m - 1 ≡ m = omega arith in rw i (omega arith)
 
 -- a whole square has one stretch of values
 pub whole_values : (k first v : ℕ) (part : Part) → part.x.first ≡ 0 → part.x.last + 1 ≡ 2 ^ k → part.y.first ≡ 0 → part.y.last + 1 ≡ 2 ^ k
@@ -24,13 +20,13 @@ whole_values k first v part a b c d = (to, from)
   where
     to : (first ≤ v) × (v ≤ first + ((2 ^ k - 1) * 2 ^ k + (2 ^ k - 1))) → HasValue k first part v
     to h =
-        let l = last_of (2 ^ k) (pow_pos k) in
+        let l = last_place (2 ^ k) (pow_pos k) in
         let p = point_at k (v - first) (omega (arith, h.0, h.1)) in
         ((p.x, p.y), ((omega arith, omega (arith, p.x_below)), (omega arith, omega (arith, p.y_below))), omega (arith, p.value, h.0))
 
     from : HasValue k first part v → (first ≤ v) × (v ≤ first + ((2 ^ k - 1) * 2 ^ k + (2 ^ k - 1)))
     from h =
-        let l = last_of (2 ^ k) (pow_pos k) in
+        let l = last_place (2 ^ k) (pow_pos k) in
         let x_in : h.0.0 < 2 ^ k = omega (arith, h.1.0.1) in
         let y_in : h.0.1 < 2 ^ k = omega (arith, h.1.1.1) in
         let below = curve_value-lt k h.0.0 h.0.1 x_in y_in in
@@ -47,12 +43,29 @@ IsInner q half part inner = (u w : ℕ) → u < half → w < half → IsSomeAnd 
 product_up : (q r n m : ℕ) → q ≤ r → q * n * m ≤ r * n * m
 product_up q r n m h = let t : n * m * q ≤ n * m * r = mul-le-mul_left (n * m) h in omega arith
 
+-- what holds of the thing in an option that holds of it by another fact
+some_map : (o : Option Part) (P Q : Part → Type 0) → ((p : Part) → P p → Q p) → IsSomeAnd o P → IsSomeAnd o Q
+some_map None P Q f h = h
+some_map (Some p) P Q f h = f p h
+
+-- a value in a quadrant is one in the square before the next quadrant
+from_quadrant : (q k first v : ℕ) (part : Part) (inner : Option Part) → q < 4 → IfSome inner (IsPart (2 ^ k)) → IsInner q (2 ^ k) part inner
+    → IsSomeAnd inner (λ p. HasValue k (first + q * 2 ^ k * 2 ^ k) p v) → HasValueBefore (q + 1) k first part v
+from_quadrant q k first v part None q_in inner_in is h = absurd h
+from_quadrant q k first v part (Some p) q_in p_in is b =
+    let u_in : b.0.0 < 2 ^ k = omega (arith, b.1.0.1, p_in.0.1) in
+    let w_in : b.0.1 < 2 ^ k = omega (arith, b.1.1.1, p_in.1.1) in
+    let has = (is b.0.0 b.0.1 u_in w_in).0 b.1 in
+    let value = curve_value-raised k q b.0.0 b.0.1 q_in u_in w_in in
+    let below = curve_value-lt k b.0.0 b.0.1 u_in w_in in
+    ((raised (2 ^ k) q b.0.0 b.0.1, has, omega (arith, value, b.2)), omega (arith, b.2, below))
+
 -- before the next quadrant lie those before this one and those in it
-pub quadrant_values : (q k first v : ℕ) (part p : Part) → q < 4 → IsPart (2 ^ suc k) part → IsPart (2 ^ k) p → IsInner q (2 ^ k) part (Some p)
-    → HasValueBefore (q + 1) k first part v ↔ (HasValueBefore q k first part v ⊎ HasValue k (first + q * 2 ^ k * 2 ^ k) p v)
-quadrant_values q k first v part p q_in part_in p_in inner = (to, from)
+pub quadrant_values : (q k first v : ℕ) (part : Part) (inner : Option Part) → q < 4 → IsPart (2 ^ suc k) part → IfSome inner (IsPart (2 ^ k)) → IsInner q (2 ^ k) part inner
+    → HasValueBefore (q + 1) k first part v ↔ (HasValueBefore q k first part v ⊎ IsSomeAnd inner (λ p. HasValue k (first + q * 2 ^ k * 2 ^ k) p v))
+quadrant_values q k first v part inner q_in part_in inner_in is = (to, from)
   where
-    to : HasValueBefore (q + 1) k first part v → HasValueBefore q k first part v ⊎ HasValue k (first + q * 2 ^ k * 2 ^ k) p v
+    to : HasValueBefore (q + 1) k first part v → HasValueBefore q k first part v ⊎ IsSomeAnd inner (λ p. HasValue k (first + q * 2 ^ k * 2 ^ k) p v)
     to h =
         let has = h.0.1 in
         let x_in : h.0.0.0 < 2 ^ suc k = omega (arith, has.0.1, part_in.0.1) in
@@ -62,9 +75,11 @@ quadrant_values q k first v part p q_in part_in p_in inner = (to, from)
         elim (cases_order there.quadrant q) [
           | inl e ↦
               let at : raised (2 ^ k) q there.x_there there.y_there ≡ h.0.0 = ap (λ n. raised (2 ^ k) n there.x_there there.y_there) (sym e) ∙ there.point in
-              let inside = (inner there.x_there there.y_there there.x_below there.y_below).1 (subst (Has part) (sym at) has) in
+              let inside = (is there.x_there there.y_there there.x_below there.y_below).1 (subst (Has part) (sym at) has) in
               let same : there.quadrant * 2 ^ k * 2 ^ k ≡ q * 2 ^ k * 2 ^ k = ap (λ n. n * 2 ^ k * 2 ^ k) e in
-              inr ((there.x_there, there.y_there), inside, omega (arith, there.value, h.0.2, same))
+              let value : first + q * 2 ^ k * 2 ^ k + curve_value k there.x_there there.y_there ≡ v = omega (arith, there.value, h.0.2, same) in
+              inr (some_map inner (λ p. Has p (there.x_there, there.y_there)) (λ p. HasValue k (first + q * 2 ^ k * 2 ^ k) p v)
+              (λ p in_p. ((there.x_there, there.y_there), in_p, value)) inside)
           | inr o ↦ elim o [
             | inl less ↦
                 let up = product_up (there.quadrant + 1) q (2 ^ k) (2 ^ k) (omega arith) in
@@ -75,46 +90,11 @@ quadrant_values q k first v part p q_in part_in p_in inner = (to, from)
           ]
         ]
 
-    from : HasValueBefore q k first part v ⊎ HasValue k (first + q * 2 ^ k * 2 ^ k) p v → HasValueBefore (q + 1) k first part v
+    from : HasValueBefore q k first part v ⊎ IsSomeAnd inner (λ p. HasValue k (first + q * 2 ^ k * 2 ^ k) p v) → HasValueBefore (q + 1) k first part v
     from h = elim h [
       | inl a ↦ let up = product_up q (q + 1) (2 ^ k) (2 ^ k) (omega arith) in (a.0, omega (arith, a.1, up))
-      | inr b ↦
-          let u_in : b.0.0 < 2 ^ k = omega (arith, b.1.0.1, p_in.0.1) in
-          let w_in : b.0.1 < 2 ^ k = omega (arith, b.1.1.1, p_in.1.1) in
-          let has = (inner b.0.0 b.0.1 u_in w_in).0 b.1 in
-          let value = curve_value-raised k q b.0.0 b.0.1 q_in u_in w_in in
-          let below = curve_value-lt k b.0.0 b.0.1 u_in w_in in
-          ((raised (2 ^ k) q b.0.0 b.0.1, has, omega (arith, value, b.2)), omega (arith, b.2, below))
+      | inr b ↦ from_quadrant q k first v part inner q_in inner_in is b
     ]
-
--- a quadrant where the part has nothing
-pub no_quadrant_values : (q k first v : ℕ) (part : Part) → IsPart (2 ^ suc k) part → IsInner q (2 ^ k) part None
-    → HasValueBefore (q + 1) k first part v ↔ HasValueBefore q k first part v
-no_quadrant_values q k first v part part_in inner = (to, from)
-  where
-    to : HasValueBefore (q + 1) k first part v → HasValueBefore q k first part v
-    to h =
-        let has = h.0.1 in
-        let x_in : h.0.0.0 < 2 ^ suc k = omega (arith, has.0.1, part_in.0.1) in
-        let y_in : h.0.0.1 < 2 ^ suc k = omega (arith, has.1.1, part_in.1.1) in
-        let there = lies k h.0.0.0 h.0.0.1 x_in y_in in
-        let below = curve_value-lt k there.x_there there.y_there there.x_below there.y_below in
-        elim (cases_order there.quadrant q) [
-          | inl e ↦
-              let at : raised (2 ^ k) q there.x_there there.y_there ≡ h.0.0 = ap (λ n. raised (2 ^ k) n there.x_there there.y_there) (sym e) ∙ there.point in
-              absurd ((inner there.x_there there.y_there there.x_below there.y_below).1 (subst (Has part) (sym at) has))
-          | inr o ↦ elim o [
-            | inl less ↦
-                let up = product_up (there.quadrant + 1) q (2 ^ k) (2 ^ k) (omega arith) in
-                (h.0, omega (arith, there.value, h.0.2, up, below))
-            | inr more ↦ absurd (
-                let up = product_up (q + 1) there.quadrant (2 ^ k) (2 ^ k) (omega arith) in
-                omega (arith, there.value, h.0.2, h.1, up))
-          ]
-        ]
-
-    from : HasValueBefore q k first part v → HasValueBefore (q + 1) k first part v
-    from a = let up = product_up q (q + 1) (2 ^ k) (2 ^ k) (omega arith) in (a.0, omega (arith, a.1, up))
 
 pub nothing_before : (k first : ℕ) (part : Part) (v : ℕ) → HasValueBefore 0 k first part v → ⊥
 nothing_before k first part v h = absurd (omega (arith, h.0.2, h.1))
@@ -162,17 +142,11 @@ pub whole_side : (order first v side : ℕ) (part : Part) → side ≡ 2 ^ order
     → ((first ≤ v) × (v ≤ first + ((side - 1) * side + (side - 1)))) ↔ HasValue order first part v
 whole_side order first v side part e h = rw e (whole_values order first v part h.0 (h.1 ∙ e) h.2 (h.3 ∙ e))
 
-square_some : (k : ℕ) → 1 ≤ 2 ^ k * 2 ^ k
-square_some k =
-    let p : 1 ≤ 2 ^ k = pow_pos k in
-    let t : 2 ^ k * 1 ≤ 2 ^ k * 2 ^ k = mul-le-mul_left (2 ^ k) p in
-    omega arith
-
 -- a quadrant begins below the end of the square
 pub quadrant_below : (order k first q h n : ℕ) → order ≡ suc k → h ≡ 2 ^ k → q < 4 → first + 2 ^ order * 2 ^ order ≤ n
     → first + q * h * h < n
 quadrant_below order k first q h n e half q_in room =
-    omega (arith, quadrant_room order k first q h n e half q_in room, square_some k)
+    omega (arith, quadrant_room order k first q h n e half q_in room, square_pos k)
 
 -- one more quadrant has been added
 pub with_quadrant : (order k first q h : ℕ) (part p : Part) (old middle new : List Range) → order ≡ suc k → h ≡ 2 ^ k → q < 4
@@ -181,18 +155,19 @@ pub with_quadrant : (order k first q h : ℕ) (part p : Part) (old middle new : 
     → Adds (HasValueBefore (q + 1) k first part) old new
 with_quadrant order k first q h part p old middle new e half q_in part_in p_in inner one two =
     Adds-both (HasValueBefore q k first part) (HasValue k (first + q * 2 ^ k * 2 ^ k) p) (HasValueBefore (q + 1) k first part) old middle new
-    (λ v. quadrant_values q k first v part p q_in (subst (λ n. IsPart (2 ^ n) part) e part_in) (subst (λ n. IsPart n p) half p_in)
+    (λ v. quadrant_values q k first v part (Some p) q_in (subst (λ n. IsPart (2 ^ n) part) e part_in) (subst (λ n. IsPart n p) half p_in)
     (subst (λ n. IsInner q n part (Some p)) half inner))
     one (subst (λ n. Adds (HasValue k (first + q * n * n) p) middle new) half two)
 
 -- one more quadrant, where the part has nothing
-pub without_quadrant : (order k first q h : ℕ) (part : Part) (inner : Option Part) (old new : List Range) → order ≡ suc k → h ≡ 2 ^ k
+pub without_quadrant : (order k first q h : ℕ) (part : Part) (inner : Option Part) (old new : List Range) → order ≡ suc k → h ≡ 2 ^ k → q < 4
     → IsPart (2 ^ order) part → inner ≡ None → IsInner q h part inner
     → Adds (HasValueBefore q k first part) old new → Adds (HasValueBefore (q + 1) k first part) old new
-without_quadrant order k first q h part inner old new e half part_in none is one =
+without_quadrant order k first q h part inner old new e half q_in part_in none is one =
     let is' = subst (λ o. IsInner q (2 ^ k) part o) none (subst (λ n. IsInner q n part inner) half is) in
     Adds-same (HasValueBefore q k first part) (HasValueBefore (q + 1) k first part) old new
-    (λ v. let n = no_quadrant_values q k first v part (subst (λ n. IsPart (2 ^ n) part) e part_in) is' in (n.1, n.0)) one
+    (λ v. let n = quadrant_values q k first v part None q_in (subst (λ n. IsPart (2 ^ n) part) e part_in) (search rules) is' in
+    ((λ a. n.1 (inl a)), (λ b. elim (n.0 b) [ inl a ↦ a | inr none ↦ absurd none ]))) one
 
 -- what is nothing of all that it may be is None
 pub is_none : (o : Option Part) → ((p : Part) → o ≡ Some p → ⊥) → o ≡ None

@@ -8,7 +8,9 @@ use std::alloc::AllocError;
 /// Values along the curve from one to another, both ends among them.
 #[derive(Clone, Copy, Debug, PartialEq, Eq)]
 pub struct Range {
+    /// The first value.
     pub lo: CurveValue,
+    /// The last value.
     pub hi: CurveValue,
 }
 

@@ -1,3 +1,5 @@
+// Covers, against a plain program that lists cells.
+
 use super::{Range, cover, meets};
 use geo_base::{Coord, Rect};
 use std::test::Fail;

@@ -2,7 +2,8 @@ use Rattle.std.proofs.Common.{◌≡◌, ℕ, ◌+◌, ◌-◌, ◌*◌, ◌/◌
 use Rattle.std.proofs.Math.Nat.{mul-le-mul_left}
 use Rattle.std.proofs.lemmas.Nat.{pow_pos}
 use Rattle.hilbert_key.specs.Curve.{curve_value}
-use Rattle.hilbert_key.proofs.Stretch.{last_of, stretch_fits, before_below, stretch_is, within_stretch}
+use Rattle.hilbert_key.specs.laws.Bounds.{last_place}
+use Rattle.hilbert_key.proofs.Stretch.{stretch_fits, before_below, stretch_is, within_stretch}
 use Rattle.hilbert_key.proofs.square_values.Goals as goal
 
 -- the square's values fit those of the whole
@@ -19,7 +20,7 @@ fits k j x y b s e x_in y_in is side =
     let pos : 1 ≤ 2 ^ j = pow_pos j in
     let once : 2 ^ j * 1 ≤ 2 ^ j * 2 ^ j = mul-le-mul_left (2 ^ j) pos in
     let more : b * 2 ^ j * 1 ≤ b * 2 ^ j * 2 ^ j = mul-le-mul_left (b * 2 ^ j) pos in
-    let l = last_of (2 ^ j) pos in
+    let l = last_place (2 ^ j) pos in
     rw side record { first = omega arith; end = all; some = omega arith; last = l }
 
 pub overflow_mul-first : goal.overflow_mul-first

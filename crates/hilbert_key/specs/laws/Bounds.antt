@@ -1,5 +1,8 @@
-use Rattle.std.proofs.Common.{◌≡◌, ℕ, zero, suc, ◌-◌, ◌*◌, ◌^◌, ◌<◌, arith, refl, inl, inr}
-use Rattle.std.proofs.Math.Nat.{pow-succ'}
+-- How many values a square has.
+-- No public contract needs this file.
+use Rattle.std.proofs.Common.{◌≡◌, ℕ, zero, suc, ◌-◌, ◌*◌, ◌^◌, ◌+◌, ◌<◌, ◌≤◌, arith, refl, inl, inr}
+use Rattle.std.proofs.Math.Nat.{pow-succ', mul-le-mul_left}
+use Rattle.std.proofs.lemmas.Nat.{pow_pos}
 use Rattle.std.proofs.lemmas.Bool.{cases_lt}
 use Rattle.hilbert_key.specs.Curve.{curve_value}
 use Rattle.hilbert_key.specs.laws.Quadrants.{lower_left, upper_left, upper_right, lower_right, curve_value-zero}
@@ -7,6 +10,18 @@ use Rattle.hilbert_key.specs.laws.Quadrants.{lower_left, upper_left, upper_right
 -- the next square has four times the points
 pub square-suc : (k : ℕ) → 2 ^ suc k * 2 ^ suc k ≡ 4 * (2 ^ k * 2 ^ k)
 square-suc k = rw (pow-succ' 2 k) (omega arith)
+
+-- a square has some point
+pub square_pos : (k : ℕ) → 0 < 2 ^ k * 2 ^ k
+square_pos k =
+    let p : 1 ≤ 2 ^ k = pow_pos k in
+    let t : 2 ^ k * 1 ≤ 2 ^ k * 2 ^ k = mul-le-mul_left (2 ^ k) p in
+    omega arith
+
+-- the last place in a square, from its first
+pub last_place : (side : ℕ) → 0 < side → (side - 1) * side + (side - 1) + 1 ≡ side * side
+last_place zero h = absurd (omega arith)
+last_place (suc m) h = let i : suc m - 1 ≡ m = omega arith in rw i (omega arith)
 
 -- a curve of order k has 2 ^ k * 2 ^ k values
 pub curve_value-lt : (k x y : ℕ) → x < 2 ^ k → y < 2 ^ k → curve_value k x y < 2 ^ k * 2 ^ k

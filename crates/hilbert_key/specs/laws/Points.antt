@@ -2,10 +2,10 @@
 -- No public contract needs this file.
 use Rattle.std.proofs.Common.{◌≡◌, ℕ, zero, suc, ◌+◌, ◌*◌, ◌/◌, ◌%◌, ◌^◌, ◌<◌, ◌≤◌, arith, ap, sym, ◌∙◌, inl, inr}
 use Rattle.std.proofs.Math.Nat.{mul-le-mul_left}
-use Rattle.std.proofs.lemmas.Nat.{pow_pos, div-add-mod', div_below, mod_below}
+use Rattle.std.proofs.lemmas.Nat.{div-add-mod', div_below, mod_below}
 use Rattle.std.proofs.lemmas.Bool.{cases_order}
 use Rattle.hilbert_key.specs.Curve.{curve_value}
-use Rattle.hilbert_key.specs.laws.Bounds.{curve_value-lt, square-suc}
+use Rattle.hilbert_key.specs.laws.Bounds.{curve_value-lt, square-suc, square_pos}
 use Rattle.hilbert_key.specs.laws.Quadrants.{lies, raised, raised-below, curve_value-raised, curve_value-zero}
 
 -- of two numbers with their last digits below n, the greater first digit decides
@@ -58,7 +58,7 @@ pub record HasPoint (k v : ℕ) : Type 0 where
 pub point_at : (k v : ℕ) → v < 2 ^ k * 2 ^ k → HasPoint k v
 point_at zero v h = record { x = 0; y = 0; x_below = omega arith; y_below = omega arith; value = omega (arith, curve_value-zero 0 0) }
 point_at (suc k) v h =
-    let pos : 0 < 2 ^ k * 2 ^ k = pos-square k in
+    let pos : 0 < 2 ^ k * 2 ^ k = square_pos k in
     let four = square-suc k in
     let whole : v / (2 ^ k * 2 ^ k) * (2 ^ k * 2 ^ k) + v % (2 ^ k * 2 ^ k) ≡ v = div-add-mod' v (2 ^ k * 2 ^ k) in
     let quadrant : v / (2 ^ k * 2 ^ k) < 4 = div_below v (2 ^ k * 2 ^ k) 4 pos (omega arith) in
@@ -72,9 +72,3 @@ point_at (suc k) v h =
       y_below = below.1;
       value = value ∙ omega (arith, there.value, whole);
     }
-  where
-    pos-square : (k : ℕ) → 0 < 2 ^ k * 2 ^ k
-    pos-square k =
-        let p : 1 ≤ 2 ^ k = pow_pos k in
-        let t : 2 ^ k * 1 ≤ 2 ^ k * 2 ^ k = mul-le-mul_left (2 ^ k) p in
-        omega arith

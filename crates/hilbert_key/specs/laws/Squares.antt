@@ -1,3 +1,5 @@
+-- The curve through aligned squares: the curve of a coarser grid.
+-- No public contract needs this file.
 use Rattle.std.proofs.Common.{◌≡◌, ℕ, zero, suc, ◌+◌, ◌-◌, ◌*◌, ◌/◌, ◌%◌, ◌^◌, ◌<◌, ◌≤◌, arith, refl, sym, ◌∙◌, ap, subst, inl, inr}
 use Rattle.std.proofs.Math.Nat.{pow-succ', div-lt_iff_lt-mul, mul-le-mul_left, div-eq_of_lt}
 use Rattle.std.proofs.lemmas.Nat.{pow-add, pow_pos, div-mul-add, div-add-mod'}

@@ -69,7 +69,7 @@ loop-quadrant-preserved t c =
       }
       | in_default w ↦ rw w.ranges-is record {
         runs = AreRunsBelow-up _ _ c.loop-quadrant.ranges.items (omega (arith, next_quadrant c.args.first c.loop-quadrant.quadrant c.side-half.result (c.args.order - 1) c.side-half.ensures)) c.loop-quadrant.invariant.runs;
-        adds = without_quadrant c.args.order (c.args.order - 1) c.args.first c.loop-quadrant.quadrant c.side-half.result c.args.part c.in_quadrant.result _ _ e c.side-half.ensures
+        adds = without_quadrant c.args.order (c.args.order - 1) c.args.first c.loop-quadrant.quadrant c.side-half.result c.args.part c.in_quadrant.result _ _ e c.side-half.ensures c.loop-quadrant-test.true
             c.requires.part_in (is_none c.in_quadrant.result w.in_default.not-Some) c.in_quadrant.ensures.exactly c.loop-quadrant.invariant.adds;
       }
     ]
