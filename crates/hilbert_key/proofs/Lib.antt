@@ -1,0 +1,3 @@
+pub mod ValueSteps
+pub mod Order
+pub mod Stretch

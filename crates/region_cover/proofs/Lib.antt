@@ -1,0 +1,4 @@
+pub mod Gathering
+pub mod Values
+pub mod Meeting
+pub mod Covered
