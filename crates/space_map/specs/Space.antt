@@ -43,7 +43,7 @@ pub record IsFirstFit (space : Space) (count from : ℕ) : Type 0 where
 -- so many pages has the longest free run
 pub record IsLongest (space : Space) (longest : ℕ) : Type 0 where
   pub found : (from : ℕ) × IsFreeRun space from longest
-  pub longest : (from count : ℕ) → IsFreeRun space from count → count ≤ longest
+  pub no_longer : (from count : ℕ) → IsFreeRun space from count → count ≤ longest
 
 -- why `count` pages are refused: no free run has them, or memory is wanting though one has
 abbrev pub IsRefusal : Space → ℕ → SpaceFault → Type 0

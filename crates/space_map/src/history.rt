@@ -7,5 +7,4 @@ ghost use Rattle.space_map.specs.History.{FirstFitStaysNear};
 /// and so begins at or before the end of what is reserved.
 pub fn first_fit_stays_near()
     ensures { FirstFitStaysNear }
-{
-}
+{}

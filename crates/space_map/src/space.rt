@@ -1,6 +1,6 @@
 //! The map of reserved extents. Free runs are what lies between them, so two of them join by themselves.
 
-ghost use Rattle.std.specs.Prelude.{◌≡◌, ℕ, ◌+◌, ◌-◌, ◌<◌, ◌≤◌, Bool, ◌&&◌, not, List, [], length, slice_index_or, MatchOption, IfOk, IfErr, OnOk, OnErr, IsErrOf, Contains};
+ghost use Rattle.std.specs.Prelude.{◌≡◌, ℕ, ◌+◌, ◌-◌, ◌<◌, ◌≤◌, Bool, ◌&&◌, not, List, [], length, slice_index_or, MatchOption, IfOk, IfErr, IsTrue, ◌↔◌, OnOk, OnErr, Contains};
 
 use std::alloc::{AllocError, Global};
 use std::error::Error;
@@ -36,7 +36,10 @@ pub enum SpaceFault {
 impl fmt::Display for SpaceFault {
     fn fmt<W: fmt::Write>(&self, f: &mut fmt::Formatter<W>) -> fmt::Result {
         match self {
-            SpaceFault::NoRun { need, longest } => write!(f, "no run of {need} free pages: the longest has {longest}"),
+            SpaceFault::NoRun { need, longest } => write!(
+                f,
+                "no run of {need} free pages: the longest has {longest}"
+            ),
             SpaceFault::OutOfMemory => write!(f, "out of memory"),
         }
     }
@@ -119,15 +122,20 @@ impl SpaceMap {
         Ok(())
     }
 
+    /// Whether this extent is reserved, as it was reserved.
+    pub fn has(&self, e: Extent) -> bool
+        ensures { IsTrue result ↔ Contains self.now.reserved e }
+    {
+        self.reserved.contains(&e)
+    }
+
     /// Frees a reserved extent: its pages, and no others. Runs that were free on both sides of it are one run then.
     pub fn release(&mut self, e: Extent)
         requires { Contains self.old.reserved e }
         ensures released { self.new ≡ released_from e self.old }
         ensures pages { (page : ℕ) → is_reserved self.new.reserved page ≡ (is_reserved self.old.reserved page && not (is_in page e)) }
-        ensures joined {
-            (from upto : ℕ) → from ≤ e.first → end_of e ≤ upto → IsFreeRun self.old from (e.first - from)
-            → IsFreeRun self.old (end_of e) (upto - end_of e) → IsFreeRun self.new from (upto - from)
-        }
+        ensures joined { (from upto : ℕ) → from ≤ e.first → end_of e ≤ upto → IsFreeRun self.old from (e.first - from)
+            → IsFreeRun self.old (end_of e) (upto - end_of e) → IsFreeRun self.new from (upto - from) }
     {
         let at = place_of(&self.reserved, self.pages, e.first);
         self.reserved.remove(at);
@@ -165,11 +173,9 @@ fn place_of(extents: &[Extent], end: u32, first: u32) -> usize
 fn first_gap(extents: &[Extent], end: u32, count: u32) -> Option<u32>
     requires apart { AreApart FIRST_DATA_PAGE end extents.now }
     requires some { 1 ≤ count }
-    ensures {
-        MatchOption result ((from : ℕ) → ¬ (IsFreeIn FIRST_DATA_PAGE end extents.now from count))
+    ensures { MatchOption result ((from : ℕ) → ¬ (IsFreeIn FIRST_DATA_PAGE end extents.now from count))
         (λ from. IsFreeIn FIRST_DATA_PAGE end extents.now from count
-            × ((before : ℕ) → before < from → ¬ (IsFreeIn FIRST_DATA_PAGE end extents.now before count)))
-    }
+        × ((before : ℕ) → before < from → ¬ (IsFreeIn FIRST_DATA_PAGE end extents.now before count))) }
 {
     let mut from = FIRST_DATA_PAGE;
     for extent in extents {
@@ -178,7 +184,11 @@ fn first_gap(extents: &[Extent], end: u32, count: u32) -> Option<u32>
         }
         from = extent.first + extent.pages;
     }
-    if end - from >= count { Some(from) } else { None }
+    if end - from >= count {
+        Some(from)
+    } else {
+        None
+    }
 }
 
 // The pages of the longest gap.
