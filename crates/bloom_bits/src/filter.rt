@@ -41,6 +41,11 @@ pub enum BloomFault {
 }
 
 impl fmt::Display for BloomFault {
+    ghost use Rattle.std.specs.Prelude.{Some};
+    ghost use Rattle.bloom_bits.specs.Fault.{fault_text};
+
+    ghost output = { λ fault. Some (fault_text fault) };
+
     fn fmt<W: fmt::Write>(&self, f: &mut fmt::Formatter<W>) -> fmt::Result {
         match self {
             BloomFault::BadBloom => write!(f, "not the bits of a filter"),
@@ -170,8 +175,8 @@ fn add_key(bytes: &mut [u8], key: u64)
 {
     let bits = bytes.len() as u64 * BYTE_BITS;
     let probes = Probes::of_key(key);
-    for j in 0..PROBES {
-        set_bit(bytes, probes.at(j, bits));
+    for number in 0..PROBES {
+        set_bit(bytes, probes.at(number, bits));
     }
 }
 

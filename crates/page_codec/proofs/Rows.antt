@@ -1,5 +1,5 @@
 -- Rows that are cut out of a page, and a row that is put on one.
-use Rattle.std.proofs.Common.{◌≡◌, ℕ, zero, suc, ◌+◌, ◌-◌, ◌*◌, ◌/◌, ◌%◌, ◌<◌, ◌≤◌, List, [], ◌∷◌, ◌++◌, length, take, drop, replicate, get_or, set, arith, refl, sym, ◌∙◌, ap, append_assoc, length-append, length-take, length-drop, drop-drop, append-nil, add-one}
+use Rattle.std.proofs.Common.{◌≡◌, ℕ, zero, suc, ◌+◌, ◌-◌, ◌*◌, ◌/◌, ◌%◌, ◌<◌, ◌≤◌, List, [], ◌∷◌, ◌++◌, length, take, drop, replicate, get_or, set, arith, refl, sym, ◌∙◌, ap, append_assoc, length-append, length-drop, drop-drop, append-nil}
 use Rattle.std.proofs.lemmas.List.{take_at, drop_at, drop-replicate, drop-take, drop-append-le, drop-set-lt, get_or-set_same, get_or-set_other, get_or_append_left, get_or-take, length-set, length-take-le}
 use Rattle.std.proofs.Math.Seq.{take-add}
 use Rattle.std.proofs.Math.Nat.{mul-le-mul_left}

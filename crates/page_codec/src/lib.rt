@@ -7,7 +7,10 @@ mod pages;
 mod tests;
 
 pub use kinds::{
-    DEL_INNER, DEL_LEAF, DHB_INNER, DHB_LEAF, DHVB_INNER, DHVB_LEAF, PRIMARY_INNER, PRIMARY_LEAF, RTREE_INNER, RTREE_LEAF, SHB_INNER, SHB_LEAF,
-    SIF_INNER, SIF_LEAF, SIF_POSTINGS, WIDTHS, is_kind, width_of,
+    DEL_INNER, DEL_LEAF, DHB_INNER, DHB_LEAF, DHVB_INNER, DHVB_LEAF, PRIMARY_INNER, PRIMARY_LEAF,
+    RTREE_INNER, RTREE_LEAF, SHB_INNER, SHB_LEAF, SIF_INNER, SIF_LEAF, SIF_POSTINGS, WIDTHS,
+    is_kind, width_of,
 };
-pub use pages::{BadPage, HEADER_BYTES, PAGE_BYTES, TreeRef, new_page, open_page, put_row, row, rows_per_page};
+pub use pages::{
+    BadPage, HEADER_BYTES, PAGE_BYTES, TreeRef, new_page, open_page, put_row, row, rows_per_page,
+};

@@ -13,8 +13,11 @@ pub const PAGE_BYTES: usize = 4096;
 pub const HEADER_BYTES: usize = 8;
 
 const KIND_AT: usize = 0;
+
 const LEVEL_AT: usize = 1;
+
 const COUNT_AT: usize = 2;
+
 const RESERVED_AT: usize = 4;
 
 /// The image of a list of rows that begins at a page of the device.
@@ -61,7 +64,9 @@ fn count_of(page: &[u8; PAGE_BYTES]) -> u16
 fn has_zeros(page: &[u8; PAGE_BYTES]) -> bool
     ensures { IsTrue result ↔ ((k : ℕ) → RESERVED_AT ≤ k → k < HEADER_BYTES → slice_index page.now k ≡ 0) }
 {
-    page[RESERVED_AT..HEADER_BYTES].iter().all(|byte| *byte == 0)
+    page[RESERVED_AT..HEADER_BYTES]
+        .iter()
+        .all(|byte| *byte == 0)
 }
 
 /// Writes a page without rows. A leaf and a page of postings have level 0.
@@ -81,7 +86,11 @@ pub fn open_page(page: &[u8; PAGE_BYTES], kind: u8, level: u8) -> Result<u16, Ba
     ensures { OkIff result (IsPage kind level page.now) (row_count page.now) }
 {
     let count = count_of(page);
-    if page[KIND_AT] == kind && page[LEVEL_AT] == level && count <= rows_per_page(kind) && has_zeros(page) {
+    if page[KIND_AT] == kind
+        && page[LEVEL_AT] == level
+        && count <= rows_per_page(kind)
+        && has_zeros(page)
+    {
         Ok(count)
     } else {
         Err(BadPage)
@@ -110,10 +119,8 @@ pub fn put_row(page: &mut [u8; PAGE_BYTES], row: &[u8])
     ensures rows { rows_on page.new ≡ rows_on page.old ++ row.now ∷ [] }
 
     // A page as it is written stays one.
-    ensures written {
-        (kind level : ℕ) (rows : List (List ℕ)) → page.old ≡ page_of kind level rows → AllOfWidth (row_width kind) rows
-        → page.new ≡ page_of kind level (rows ++ row.now ∷ [])
-    }
+    ensures written { (kind level : ℕ) (rows : List (List ℕ)) → page.old ≡ page_of kind level rows → AllOfWidth (row_width kind) rows
+        → page.new ≡ page_of kind level (rows ++ row.now ∷ []) }
 {
     let count = count_of(page);
     let at = HEADER_BYTES + usize::from(count) * row.len();

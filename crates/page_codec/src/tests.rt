@@ -2,7 +2,10 @@
 
 ghost use Rattle.page_codec.specs.Page.{IsKind};
 
-use crate::{BadPage, PAGE_BYTES, SIF_INNER, is_kind, new_page, open_page, put_row, row, rows_per_page, width_of};
+use crate::{
+    BadPage, PAGE_BYTES, SIF_INNER, is_kind, new_page, open_page, put_row, row, rows_per_page,
+    width_of,
+};
 
 // Puts a row where the page has room.
 fn put(page: &mut [u8; PAGE_BYTES], kind: u8, level: u8, bytes: &[u8]) -> bool
@@ -29,7 +32,23 @@ fn read(page: &[u8; PAGE_BYTES], kind: u8, level: u8, i: u16) -> Option<&[u8]>
 
 #[test]
 fn kinds_have_the_widths_of_the_format(rt: HostRuntime) {
-    let table = [(78, 52), (12, 340), (12, 340), (12, 340), (8, 511), (12, 340), (13, 314), (16, 255), (13, 314), (16, 255), (11, 371), (14, 292), (10, 408), (6, 681), (9, 454)];
+    let table = [
+        (78, 52),
+        (12, 340),
+        (12, 340),
+        (12, 340),
+        (8, 511),
+        (12, 340),
+        (13, 314),
+        (16, 255),
+        (13, 314),
+        (16, 255),
+        (11, 371),
+        (14, 292),
+        (10, 408),
+        (6, 681),
+        (9, 454),
+    ];
     for (kind, (width, rows)) in (1..16).zip(table) {
         assert!(rt; is_kind(kind), "kind {kind}");
         assert_eq!(rt; width_of(kind), width, "of kind {kind}");
@@ -46,12 +65,24 @@ fn a_page_takes_rows_until_it_is_full(rt: HostRuntime) {
     new_page(SIF_INNER, 1, &mut page);
     for i in 0..681u16 {
         let low = (i % 256) as u8;
-        assert!(rt; put(&mut page, SIF_INNER, 1, &[1, 2, 3, 4, (i / 256) as u8, low]), "row {i}");
+        assert!(rt;
+            put(&mut page, SIF_INNER, 1, &[1, 2, 3, 4, (i / 256) as u8, low]),
+            "row {i}"
+        );
     }
     assert!(rt; !put(&mut page, SIF_INNER, 1, &[0; 6]));
-    assert_eq!(rt; &page[..20], [14, 1, 2, 169, 0, 0, 0, 0, 1, 2, 3, 4, 0, 0, 1, 2, 3, 4, 0, 1].as_slice());
+    assert_eq!(rt;
+        &page[..20],
+        [
+            14, 1, 2, 169, 0, 0, 0, 0, 1, 2, 3, 4, 0, 0, 1, 2, 3, 4, 0, 1
+        ]
+        .as_slice()
+    );
     assert_eq!(rt; &page[4088..], [1, 2, 3, 4, 2, 168, 0, 0].as_slice());
-    assert_eq!(rt; read(&page, SIF_INNER, 1, 300), Some([1, 2, 3, 4, 1, 44].as_slice()));
+    assert_eq!(rt;
+        read(&page, SIF_INNER, 1, 300),
+        Some([1, 2, 3, 4, 1, 44].as_slice())
+    );
     assert_eq!(rt; read(&page, SIF_INNER, 1, 681), None);
 }
 

@@ -1,12 +1,12 @@
 -- One extent more, and one less.
-use Rattle.std.proofs.Common.{◌≡◌, ℕ, zero, suc, ◌+◌, ◌-◌, ◌<◌, ◌≤◌, Bool, true, false, ◌&&◌, ◌||◌, not, cond, eqb, ltb, leb, List, [], ◌∷◌, length, get_or, refl, sym, ◌∙◌, ap, subst, arith, ⊎_elim}
+use Rattle.std.proofs.Common.{◌≡◌, ℕ, zero, suc, ◌-◌, ◌<◌, ◌≤◌, Bool, true, false, ◌&&◌, ◌||◌, not, cond, eqb, ltb, leb, List, [], ◌∷◌, length, get_or, refl, sym, ◌∙◌, ap, subst, arith, ⊎_elim}
 use Rattle.std.specs.List.{insert, remove, Contains}
 use Rattle.std.specs.List.Sorted.{IsPartitionedBy}
 use Rattle.std.proofs.lemmas.Bool.{cases_lt, cases_eq, le-ltb, lt-ltb, ltb-true, eq-eqb, ne_eqb, or_parts, and_parts, and_left, and_right, cases_Bool}
 use Rattle.std.proofs.lemmas.List.{get_or_default}
 use Rattle.space_map.specs.declared.space.Extent.{Extent}
 use Rattle.space_map.specs.Space.{end_of, is_in, is_reserved, AreApart, IsFreeIn, with_extent, without_extent}
-use Rattle.space_map.proofs.Gaps.{free-outside, apart-lower, is_in-inside, is_in-below, is_in-above, is_reserved-below}
+use Rattle.space_map.proofs.Gaps.{free-outside, apart-lower, is_in-inside, is_in-below, is_reserved-below}
 
 -- the list with an extent where it belongs: behind those that begin before it
 pub insert-is : (e : Extent) (xs : List Extent) (at : ℕ) → at ≤ length xs → ((k : ℕ) (d : Extent) → k < at → (get_or xs k d).first < e.first)

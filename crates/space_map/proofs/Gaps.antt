@@ -1,8 +1,8 @@
 -- The gaps between extents, walked from the left, are the free runs.
-use Rattle.std.proofs.Common.{◌≡◌, ℕ, ◌+◌, length, get_or, drop, ◌-◌, ◌<◌, ◌≤◌, Bool, true, false, ◌||◌, leb, cond, max, List, [], ◌∷◌, Option, Some, None, refl, sym, ◌∙◌, ap, subst, arith, ⊎_elim}
+use Rattle.std.proofs.Common.{◌≡◌, ℕ, ◌+◌, length, get_or, drop, ◌-◌, ◌<◌, ◌≤◌, Bool, true, false, leb, cond, max, List, [], ◌∷◌, Option, Some, None, refl, sym, ◌∙◌, ap, subst, arith, ⊎_elim}
 use Rattle.std.specs.Prelude.{MatchOption}
 use Rattle.std.proofs.lemmas.List.{drop_more, drop_all}
-use Rattle.std.proofs.lemmas.Bool.{cases_lt, lt-leb, le-ltb, lt-ltb, le-leb, and_left, and_right, and_from, or_from, or_parts, or_left, true≢false, false≢true}
+use Rattle.std.proofs.lemmas.Bool.{cases_lt, lt-leb, le-ltb, lt-ltb, le-leb, and_left, and_right, and_from, or_from, or_parts, true≢false}
 use Rattle.space_map.specs.declared.space.Extent.{Extent}
 use Rattle.space_map.specs.declared.space.TheConstants.{FIRST_DATA_PAGE}
 use Rattle.space_map.specs.Space.{Space, end_of, is_in, is_reserved, AreApart, IsFreeIn, IsFreeRun, IsFirstFit}

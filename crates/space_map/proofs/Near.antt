@@ -1,10 +1,10 @@
 -- First fit stays near.
-use Rattle.std.proofs.Common.{◌≡◌, ℕ, ◌+◌, ◌<◌, ◌≤◌, Bool, true, false, cond, eqb, ltb, max, List, [], ◌∷◌, refl, sym, ◌∙◌, ap, subst, arith, ⊎_elim}
+use Rattle.std.proofs.Common.{◌≡◌, ℕ, ◌+◌, ◌≤◌, Bool, false, cond, eqb, ltb, max, List, [], ◌∷◌, refl, sym, ap, subst, arith, ⊎_elim}
 use Rattle.std.proofs.lemmas.Bool.{cases_lt, cases_Bool, or_from}
 use Rattle.space_map.specs.declared.space.Extent.{Extent}
 use Rattle.space_map.specs.declared.space.TheConstants.{FIRST_DATA_PAGE}
-use Rattle.space_map.specs.Space.{Space, end_of, is_in, is_reserved, IsFreeIn, IsFreeRun, IsFirstFit, with_extent, without_extent, reserved_with, released_from, reserved_end}
-use Rattle.space_map.specs.History.{Change, Reserved, Released, AfterChanges, pages_reserved, FirstFitStaysNear}
+use Rattle.space_map.specs.Space.{Space, end_of, is_reserved, IsFreeRun, IsFirstFit, with_extent, without_extent, reserved_with, released_from, reserved_end}
+use Rattle.space_map.specs.History.{Reserved, Released, FirstFitStaysNear}
 use Rattle.space_map.proofs.Gaps.{is_in-above}
 
 -- nothing is reserved behind the end

@@ -34,6 +34,11 @@ pub enum SpaceFault {
 }
 
 impl fmt::Display for SpaceFault {
+    ghost use Rattle.std.specs.Prelude.{Some};
+    ghost use Rattle.space_map.specs.Fault.{fault_text};
+
+    ghost output = { λ fault. Some (fault_text fault) };
+
     fn fmt<W: fmt::Write>(&self, f: &mut fmt::Formatter<W>) -> fmt::Result {
         match self {
             SpaceFault::NoRun { need, longest } => write!(

@@ -1,4 +1,4 @@
-use Rattle.std.proofs.Common.{◌≡◌, ℕ, ◌+◌, List, Option, Some, None, drop, get_or, sym, subst, arith}
+use Rattle.std.proofs.Common.{ℕ, ◌+◌, List, Option, drop, get_or, sym, subst, arith}
 use Rattle.space_map.specs.declared.space.Extent.{Extent}
 use Rattle.space_map.specs.declared.space.TheConstants.{FIRST_DATA_PAGE}
 use Rattle.space_map.specs.Space.{end_of}
