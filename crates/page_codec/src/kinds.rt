@@ -16,10 +16,10 @@ pub const RTREE_LEAF: u8 = 3;
 pub const RTREE_INNER: u8 = 4;
 
 /// A deleted key: key 8.
-pub const DEL_LEAF: u8 = 5;
+pub const DELETED_LEAF: u8 = 5;
 
 /// Key 8, child 4.
-pub const DEL_INNER: u8 = 6;
+pub const DELETED_INNER: u8 = 6;
 
 /// X 2, y 2, key 8, anti 1.
 pub const DHB_LEAF: u8 = 7;
@@ -40,13 +40,13 @@ pub const SHB_LEAF: u8 = 11;
 pub const SHB_INNER: u8 = 12;
 
 /// A row of the dictionary: cell 2, first posting 4, count 4.
-pub const SIF_LEAF: u8 = 13;
+pub const DICTIONARY_LEAF: u8 = 13;
 
 /// Cell 2, child 4.
-pub const SIF_INNER: u8 = 14;
+pub const DICTIONARY_INNER: u8 = 14;
 
 /// Key 8, anti 1.
-pub const SIF_POSTINGS: u8 = 15;
+pub const POSTINGS: u8 = 15;
 
 /// The bytes of a row, by the kind of its page; 0 where no page has that kind.
 pub const WIDTHS: [usize; 16] = [0, 78, 12, 12, 12, 8, 12, 13, 16, 13, 16, 11, 14, 10, 6, 9];

@@ -3,8 +3,8 @@
 ghost use Rattle.page_codec.specs.Page.{IsKind};
 
 use crate::{
-    BadPage, PAGE_BYTES, SIF_INNER, is_kind, new_page, open_page, put_row, row, rows_per_page,
-    width_of,
+    BadPage, DICTIONARY_INNER, PAGE_BYTES, is_kind, new_page, open_page, put_row, row,
+    rows_per_page, width_of,
 };
 
 // Puts a row where the page has room.
@@ -62,15 +62,20 @@ fn kinds_have_the_widths_of_the_format(rt: HostRuntime) {
 #[test]
 fn a_page_takes_rows_until_it_is_full(rt: HostRuntime) {
     let mut page = [9; PAGE_BYTES];
-    new_page(SIF_INNER, 1, &mut page);
+    new_page(DICTIONARY_INNER, 1, &mut page);
     for i in 0..681u16 {
         let low = (i % 256) as u8;
         assert!(rt;
-            put(&mut page, SIF_INNER, 1, &[1, 2, 3, 4, (i / 256) as u8, low]),
+            put(
+                &mut page,
+                DICTIONARY_INNER,
+                1,
+                &[1, 2, 3, 4, (i / 256) as u8, low]
+            ),
             "row {i}"
         );
     }
-    assert!(rt; !put(&mut page, SIF_INNER, 1, &[0; 6]));
+    assert!(rt; !put(&mut page, DICTIONARY_INNER, 1, &[0; 6]));
     assert_eq!(rt;
         &page[..20],
         [
@@ -80,10 +85,10 @@ fn a_page_takes_rows_until_it_is_full(rt: HostRuntime) {
     );
     assert_eq!(rt; &page[4088..], [1, 2, 3, 4, 2, 168, 0, 0].as_slice());
     assert_eq!(rt;
-        read(&page, SIF_INNER, 1, 300),
+        read(&page, DICTIONARY_INNER, 1, 300),
         Some([1, 2, 3, 4, 1, 44].as_slice())
     );
-    assert_eq!(rt; read(&page, SIF_INNER, 1, 681), None);
+    assert_eq!(rt; read(&page, DICTIONARY_INNER, 1, 681), None);
 }
 
 #[test]
@@ -111,6 +116,10 @@ fn headers_that_are_refused(rt: HostRuntime) {
         let mut page = full;
         assert!(rt; at < PAGE_BYTES);
         page[at] = byte;
-        assert_eq!(rt; open_page(&page, SIF_INNER, 1), want, "byte {at} is {byte}");
+        assert_eq!(rt;
+            open_page(&page, DICTIONARY_INNER, 1),
+            want,
+            "byte {at} is {byte}"
+        );
     }
 }

@@ -26,6 +26,10 @@ abbrev pub AreApart : (low end : ℕ) → List Extent → Type 0
 AreApart low end [] = low ≤ end
 AreApart low end (e ∷ es) = (low ≤ e.first) × (1 ≤ e.pages) × AreApart (end_of e) end es
 
+-- what is true of every map
+abbrev pub IsSpace : Space → Type 0
+IsSpace space = AreApart FIRST_DATA_PAGE space.pages space.reserved
+
 -- the pages `from` to `from + count` lie in the pages from `low` to `end`, and none of them is reserved
 pub record IsFreeIn (low end : ℕ) (extents : List Extent) (from count : ℕ) : Type 0 where
   pub above : low ≤ from

@@ -71,7 +71,7 @@ impl Model for SpaceMap {
 }
 
 impl SpaceMap {
-    ghost use Rattle.space_map.specs.Space.{end_of, is_in, is_reserved, IsFreeRun, IsFirstFit, IsLongest, IsRefusal, reserved_with, released_from, reserved_end};
+    ghost use Rattle.space_map.specs.Space.{end_of, is_in, is_reserved, IsSpace, IsFreeRun, IsFirstFit, IsLongest, IsRefusal, reserved_with, released_from, reserved_end};
 
     /// A map of a device of so many pages, on which nothing from the first data page on is reserved.
     pub fn new(alloc: Global, pages: u32) -> SpaceMap
@@ -92,6 +92,7 @@ impl SpaceMap {
         ensures ok { IfOk result (λ e. self.new ≡ reserved_with e self.old) }
         ensures refused { IfErr result (IsRefusal self.old count) }
         ensures err { OnErr result (self.new ≡ self.old) }
+        ensures apart { IsSpace self.new }
 
         // It begins at or before the end of what is reserved, and room behind that end is enough.
         ensures near { IfOk result (λ e. e.first ≤ reserved_end self.old.reserved) }
@@ -121,6 +122,7 @@ impl SpaceMap {
         requires free { IsFreeRun self.old e.first e.pages }
         ensures ok { OnOk result (self.new ≡ reserved_with e self.old) }
         ensures err { OnErr result (self.new ≡ self.old) }
+        ensures apart { IsSpace self.new }
     {
         let at = place_of(&self.reserved, self.pages, e.first);
         self.reserved.insert(at, e)?;
@@ -138,6 +140,7 @@ impl SpaceMap {
     pub fn release(&mut self, e: Extent)
         requires { Contains self.old.reserved e }
         ensures released { self.new ≡ released_from e self.old }
+        ensures apart { IsSpace self.new }
         ensures pages { (page : ℕ) → is_reserved self.new.reserved page ≡ (is_reserved self.old.reserved page && not (is_in page e)) }
         ensures joined { (from upto : ℕ) → from ≤ e.first → end_of e ≤ upto → IsFreeRun self.old from (e.first - from)
             → IsFreeRun self.old (end_of e) (upto - end_of e) → IsFreeRun self.new from (upto - from) }
@@ -148,7 +151,8 @@ impl SpaceMap {
 
     /// The number of pages of the longest free run.
     pub fn longest(&self) -> u32
-        ensures { IsLongest self.now result }
+        ensures longest { IsLongest self.now result }
+        ensures apart { IsSpace self.now }
     {
         longest_gap(&self.reserved, self.pages)
     }

@@ -4,8 +4,8 @@ use Rattle.space_map.specs.declared.space.TheConstants.{FIRST_DATA_PAGE}
 use Rattle.space_map.specs.Space.{Space, IsFreeIn, IsLongest}
 use Rattle.space_map.proofs.space.SpaceMap.longest.Goals as goal
 
-pub returns : goal.returns
-returns c =
+pub returns-clause-longest : goal.returns-clause-longest
+returns-clause-longest c =
     let n : ℕ = c.longest_gap.result in
     let end : ℕ = c.self.inside.pages in
     let P : List Extent → Type 0 = λ ys. (from : ℕ) × IsFreeIn FIRST_DATA_PAGE end ys from n in

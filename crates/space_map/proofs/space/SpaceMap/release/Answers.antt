@@ -45,3 +45,6 @@ returns-clause-joined c = λ from upto before behind first second.
     let R : Space → Type 0 = λ space. IsFreeRun space (end_of e) (upto - end_of e) in
     joined FIRST_DATA_PAGE c.self.inside.pages c.self.inside.reserved.items c.remove.new.self.items e (pages_left c) from upto before behind
     (subst L (sym c.self.view_is) first) (subst R (sym c.self.view_is) second)
+
+pub returns-clause-apart : goal.returns-clause-apart
+returns-clause-apart c = invariant_of-self c

@@ -12,12 +12,12 @@ returns-in-Ok-clause-near c = first_fit-near c.args.self.now c.args.count c.in-S
 pub returns-in-None-clause-refused : goal.returns-in-None-clause-refused
 returns-in-None-clause-refused c =
     let space = c.args.self.now in
-    let run = c.longest.ensures.found in
+    let run = c.longest.ensures.longest.found in
     let short : c.longest.result < c.args.count =
     ⊎_elim (λ less. less)
     (λ enough. absurd (c.in-None.ensures run.0 (shorter FIRST_DATA_PAGE space.pages space.reserved run.0 c.longest.result c.args.count enough run.1)))
     (cases_lt c.longest.result c.args.count) in
-    (refl, c.longest.ensures, short)
+    (refl, c.longest.ensures.longest, short)
 
 pub returns-in-None-clause-enough : goal.returns-in-None-clause-enough
 returns-in-None-clause-enough c = λ room.

@@ -22,3 +22,6 @@ returns-clause-ok c =
     let build : List Extent → Space = λ ys. record { reserved = ys; pages = c.self.inside.pages } in
     let placed = placed_list e c.deref.result.now xs c.place_of-at.result c.deref.ensures.value c.place_of-at.ensures.bound c.place_of-at.ensures.before c.place_of-at.ensures.behind in
     ap build (c.in_ok-insert.ensures.items ∙ placed) ∙ ap (reserved_with e) c.self.view_is
+
+pub returns-clause-apart : goal.returns-clause-apart
+returns-clause-apart c = invariant_of-self-2 c
