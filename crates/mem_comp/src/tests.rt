@@ -1,0 +1,133 @@
+// A component against a plain program, and what a view keeps.
+
+use super::{MemComp, MemView};
+use order_merge::Entry;
+use std::alloc::{AllocError, Global};
+use std::cmp::Ordering;
+
+// A number for each of 32 components, folded from its entries. The plain program bench/lists/merges.py prints the table.
+const HELD: [u32; 32] = [
+    3757304708, 1527370506, 1524740244, 593273319, 1138513135, 401237635, 1405194907, 2271644523,
+    3600029624, 2913948685, 3479725982, 1800928726, 3685466173, 3908088822, 3327739627, 274668479,
+    3629831477, 4147595770, 2055876283, 202121866, 2749033891, 2425678690, 312172212, 2421614949,
+    679622981, 3313086843, 76257739, 3414515008, 2025221950, 1176758187, 508374540, 4188591493,
+];
+
+#[derive(Clone, Copy, Debug, PartialEq)]
+struct Mark {
+    key: u64,
+    anti: bool,
+    tag: u64,
+}
+
+impl Entry for Mark {
+    ghost use Rattle.std.specs.Ordering.{nat_cmp};
+    ghost use Rattle.order_merge.specs.laws.Numbers.{nat_cmp-IsKeyOrder};
+
+    type Key = u64;
+
+    ghost reading = { record { key_of = λ e. e.key; is_anti = λ e. e.anti; order = nat_cmp } };
+
+    fn key(&self) -> u64 {
+        self.key
+    }
+
+    fn anti(&self) -> bool {
+        self.anti
+    }
+
+    fn compare(a: &u64, b: &u64) -> Ordering {
+        a.cmp(b)
+    }
+
+    ghost key_order = { nat_cmp-IsKeyOrder };
+}
+
+fn held(alloc: Global, view: &MemView<Mark>) -> Result<Vec<Mark>, AllocError> {
+    let mut marks = Vec::new(alloc);
+    view.append_to(&mut marks)?;
+    Ok(marks)
+}
+
+// Sixty additions and removals, drawn from a seed.
+fn filled(alloc: Global, seed: u64) -> Result<MemComp<Mark>, AllocError> {
+    let mut component = MemComp::new(alloc);
+    let mut state = seed;
+    for _ in 0..60 {
+        state = state
+            .wrapping_mul(6_364_136_223_846_793_005)
+            .wrapping_add(1_442_695_040_888_963_407);
+        let key = state >> 40 & 15;
+        let what = state >> 50 & 3;
+        if what == 0 {
+            component.drop_key(&key);
+        } else {
+            component.reserve(1)?;
+            component.add(Mark {
+                key,
+                anti: what == 1,
+                tag: state >> 33 & 7,
+            });
+        }
+    }
+    Ok(component)
+}
+
+fn folded(marks: &[Mark]) -> u32 {
+    let mut total: u32 = 0;
+    for mark in marks {
+        let code = mark
+            .key
+            .wrapping_mul(16)
+            .wrapping_add(if mark.anti { 8 } else { 0 })
+            .wrapping_add(mark.tag)
+            .wrapping_add(1);
+        total = total
+            .wrapping_mul(16_777_619)
+            .wrapping_add((code % 65_536) as u32);
+    }
+    total
+}
+
+#[test]
+fn a_component_holds_what_a_plain_program_holds(rt: HostRuntime) -> Result<(), AllocError> {
+    for (seed, want) in HELD.iter().enumerate() {
+        let component = filled(rt.alloc(), seed as u64)?;
+        let marks = held(rt.alloc(), &component.share()?)?;
+        assert_eq!(rt; folded(&marks), *want, "seed {seed}");
+        for key in 0..16 {
+            let want = marks.iter().find(|mark| mark.key == key).copied();
+            assert_eq!(rt; component.get(&key), want, "seed {seed}, key {key}");
+        }
+    }
+    Ok(())
+}
+
+#[test]
+fn a_view_stays_as_it_was(rt: HostRuntime) -> Result<(), AllocError> {
+    let first = Mark {
+        key: 7,
+        anti: false,
+        tag: 1,
+    };
+    let mut component = MemComp::new(rt.alloc());
+    component.reserve(1)?;
+    component.add(first);
+    let view = component.share()?;
+    assert_eq!(rt; component.get(&7), Some(first));
+    assert_eq!(rt; view.get(&7), Some(first));
+    component.drop_key(&7);
+    component.reserve(2)?;
+    component.add(Mark {
+        key: 8,
+        anti: true,
+        tag: 2,
+    });
+    assert_eq!(rt; component.get(&7), None);
+    assert_eq!(rt; view.get(&7), Some(first));
+    assert_eq!(rt; view.get(&8), None);
+    let mut marks = held(rt.alloc(), &view)?;
+    view.append_to(&mut marks)?;
+    assert_eq!(rt; marks.as_slice(), [first, first].as_slice());
+    Ok(())
+}

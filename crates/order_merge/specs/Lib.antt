@@ -1,0 +1,10 @@
+pub mod Entries
+pub mod Adding
+pub mod Views
+pub mod Places
+pub mod DeletedKeys
+pub mod PointOrder
+pub mod Ranges
+pub mod Prefix
+pub mod Merging
+pub mod laws
