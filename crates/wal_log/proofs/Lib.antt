@@ -1,0 +1,10 @@
+pub mod Agreeing
+pub mod Planned
+pub mod Growing
+pub mod Finding
+pub mod HeadsFound
+pub mod Ordering
+pub mod Spelled
+pub mod Turning
+pub mod Walking
+pub mod LogFound
