@@ -1,5 +1,5 @@
 -- What is found at the place of a record, and what a walk over these places has read.
-use Rattle.std.proofs.Common.{◌≡◌, ◌≢◌, inl, inr, ⊎_elim, ℕ, zero, suc, ◌+◌, ◌-◌, ◌*◌, ◌<◌, ◌≤◌, List, [], ◌∷◌, ◌++◌, length, get_or, take, drop, map, refl, sym, ◌∙◌, ap, subst, arith, Option, Some, ◌⊎◌, length-append, append_assoc}
+use Rattle.std.proofs.Common.{◌≡◌, ◌≢◌, inl, inr, ⊎_elim, ℕ, zero, suc, ◌+◌, ◌-◌, ◌*◌, ◌<◌, ◌≤◌, ◌^◌, List, [], ◌∷◌, ◌++◌, length, get_or, take, drop, map, refl, sym, ◌∙◌, ap, subst, arith, Option, Some, ◌⊎◌, length-append, append_assoc}
 use Rattle.std.proofs.lemmas.List.{append-nil, get_or_append_left, get_or_at, length_push, map-append}
 use Rattle.std.proofs.Math.Seq.{take-length}
 use Rattle.std.proofs.lemmas.Option.{same_Some}
@@ -14,9 +14,10 @@ use Rattle.wal_log.specs.Places.{segment_start, record_start}
 use Rattle.wal_log.specs.Records.{record_of, IsRecord}
 use Rattle.wal_log.specs.Segments.{segment_records, open_records, IsLooked}
 use Rattle.wal_log.specs.Rules.{AreRecords, HasRecords}
-use Rattle.wal_log.specs.Found.{HasReadSome, HasReadAll, IsFound, IsPlaceStill, IsOpenStill}
+use Rattle.wal_log.specs.Found.{HasReadSome, HasReadAll, IsFound, IsPlaceStill, IsOpenStill, HasNumber}
 use Rattle.wal_log.specs.declared.records.Record.{Record}
 use Rattle.wal_log.specs.declared.reading.Found.{Found}
+use Rattle.wal_log.specs.declared.reading.Found.TheVariants.{Sound}
 use Rattle.wal_log.proofs.Agreeing.{open_records-shut, open_records-open}
 
 -- what was on the disk is there after reads, and the bytes are the same
@@ -155,3 +156,7 @@ read-none first k bytes before =
 pub read-too_many : (first place k : ℕ) (bytes : Bytes) (before now : List Record) → place ≡ 2049 → HasReadSome first place k bytes before now → HasRecords first (segment_records k bytes) → ⊥
 read-too_many first place k bytes before now all read sound =
     omega (arith, ap length read.rest, length-append read.front (open_records (2049 - place) (record_start k place) bytes), read.counts, sound.few)
+
+-- the number after that of a record
+pub below-more : (first place : ℕ) (r : Record) → HasNumber (first + place) (Sound r) → first + (place + 1) ≤ 2 ^ 62
+below-more first place r below = omega (arith, below)

@@ -8,3 +8,4 @@ pub mod Spelled
 pub mod Turning
 pub mod Walking
 pub mod LogFound
+pub mod Keeping

@@ -1,5 +1,5 @@
 -- A walk over the segments, in order.
-use Rattle.std.proofs.Common.{◌≡◌, ◌≢◌, ◌⊎◌, inl, inr, ⊎_elim, ℕ, zero, suc, ◌+◌, ◌-◌, ◌<◌, ◌≤◌, List, [], ◌∷◌, ◌++◌, length, get_or, take, drop, map, Option, Some, None, refl, sym, ◌∙◌, ap, subst, arith, append_assoc, All, Bool, true, false, nat_le, if◌then◌else◌, ◌%◌}
+use Rattle.std.proofs.Common.{◌≡◌, ◌≢◌, ◌⊎◌, inl, inr, ⊎_elim, ℕ, zero, suc, ◌+◌, ◌-◌, ◌<◌, ◌≤◌, ◌^◌, List, [], ◌∷◌, ◌++◌, length, get_or, take, drop, map, Option, Some, None, refl, sym, ◌∙◌, ap, subst, arith, append_assoc, All, Bool, true, false, nat_le, if◌then◌else◌, ◌%◌}
 use Rattle.std.specs.Option.{option_map}
 use Rattle.std.proofs.lemmas.List.{drop_more, take_more, get_or-map, length-map, length-drop, append-nil}
 use Rattle.std.proofs.Math.Seq.{take-length, drop-length}
@@ -16,7 +16,7 @@ use Rattle.std.proofs.lemmas.Bool.{cases_eq}
 use Rattle.wal_log.specs.Places.{segment_start}
 use Rattle.wal_log.specs.Heads.{numbered_at, open_heads, heads_above, header_of, with_head, placed_head}
 use Rattle.wal_log.proofs.Agreeing.{segment_at-open, segment_at-shut}
-use Rattle.wal_log.specs.Walk.{ended_of, GoesOn, StartsAfter, EndsThere, HasReadSegment, IsUnsound, IsNewest}
+use Rattle.wal_log.specs.Walk.{ended_of, GoesOn, StartsAfter, EndsThere, HasReadSegment, IsUnsound, IsNewest, HasEnded, HasEndedBefore, IsEndOf, IsCountedEnd}
 use Rattle.wal_log.specs.declared.heads.Head.{Head}
 use Rattle.wal_log.specs.declared.walk.Ended.{Ended}
 use Rattle.wal_log.specs.declared.records.Record.{Record}
@@ -233,3 +233,18 @@ newest-there b heads i h before old now at_end are lt here read =
       started = subst (λ (k : ℕ). b (segment_start k) ≡ 165) number is_open.1;
       counts = subst (λ (k : ℕ). length (segment_records k b) ≡ at_end.records) number (sym (ap (λ (e : Ended). e.records) read.ended));
     }
+
+-- the numbers of the newest segment, where some index ends below 2^62 right before it or right before the one before it
+pub counted-end : (before : Option Ended) (h : Head) (at_end : Ended) (ends : List ℕ) → HasEndedBefore before → IsEndOf before h at_end → All (EndsThere before h) ends → 1 ≤ length ends → All (λ last. last < 2 ^ 62) ends → IsCountedEnd at_end
+counted-end before h at_end ends behind is there some below =
+    let first : first_lsn_in h.bytes ≤ 2 ^ 62 = starts_below before (get_or ends 0 0) behind is.follows (there 0 0 (omega arith)) (below 0 0 (omega arith)) in
+    record {
+      few = is.numbers.few;
+      generation = is.numbers.generation;
+      next_lsn = ⊎_elim (λ none. omega (arith, none, is.first_lsn, first)) (λ all. all) is.numbers.below;
+    }
+  where
+    starts_below : (before : Option Ended) (last : ℕ) → HasEndedBefore before → GoesOn before h → EndsThere before h last → last < 2 ^ 62 → first_lsn_in h.bytes ≤ 2 ^ 62
+    starts_below None last behind goes there lt = omega (arith, there, lt)
+    starts_below (Some b) last behind goes (inl here) lt = omega (arith, here, lt)
+    starts_below (Some b) last behind goes (inr before_it) lt = ⊎_elim (λ none. omega (arith, none, before_it, lt, goes.1)) (λ all. omega (arith, all, goes.1)) behind.below

@@ -1,5 +1,5 @@
 -- What is found where a record may stand, and what a segment gives.
-use Rattle.std.specs.Prelude.{◌≡◌, ◌≢◌, ℕ, ◌+◌, ◌-◌, ◌<◌, ◌≤◌, List, ◌++◌, length, map, Result, IfErr}
+use Rattle.std.specs.Prelude.{◌≡◌, ◌≢◌, ℕ, ◌+◌, ◌-◌, ◌<◌, ◌≤◌, ◌^◌, ◌⊎◌, List, ◌++◌, length, map, Result, IfErr}
 use Rattle.dev_model.specs.Counts.{Rose}
 use Rattle.dev_model.specs.Story.{Bytes, Story, bytes_of, part, IsSettled}
 use Rattle.wal_log.specs.Records.{IsRecord, record_of}
@@ -33,6 +33,17 @@ pub record HasReadAll (first count : ℕ) (records : List (List ℕ)) (before no
   pub counts : length records ≡ count
   pub sound : HasRecords first records
   pub added : now ≡ before ++ map record_of records
+
+-- the number of a record that was found
+abbrev pub HasNumber : ℕ → Found → Type 0
+HasNumber lsn Closed = Unit {0}
+HasNumber lsn Bad = Unit {0}
+HasNumber lsn (Sound r) = lsn < 2 ^ 62
+
+-- so many records from this number on, each with a number below 2^62
+pub record AreFew (first count : ℕ) : Type 0 where
+  pub few : count ≤ 2048
+  pub below : (count ≡ 0) ⊎ (first + count ≤ 2 ^ 62)
 
 -- what a named segment says
 abbrev pub WhereBad : LogFault → (ℕ → Type 0) → Type 0

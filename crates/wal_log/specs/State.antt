@@ -5,6 +5,7 @@ use Rattle.wal_log.specs.Places.{segment_start, record_start}
 use Rattle.wal_log.specs.Headers.{header_bytes}
 use Rattle.wal_log.specs.Records.{record_bytes}
 use Rattle.wal_log.specs.Segments.{Segments, segment_records, with_record, started_segment, IsLooked}
+use Rattle.wal_log.specs.Rules.{Numbered, generation_of, next_lsn_of, AreSound, in_order, Opens, records_of}
 use Rattle.wal_log.specs.declared.places.TheConstants.{MOST_RECORDS, OPEN}
 use Rattle.wal_log.specs.declared.log.Log.{Log}
 use Rattle.wal_log.specs.declared.records.Record.{Record}
@@ -20,6 +21,17 @@ IsStill s = (k : ℕ) → k < 4 → IsSegmentStill k s
 -- the segment that takes the next record
 abbrev pub newest : Log → ℕ
 newest log = log.generation % 4
+
+-- the last of the segments in order has this generation, this next number and so many records
+abbrev pub HasLast : (generation next records : ℕ) → List Numbered → Type 0
+HasLast generation next records [] = ⊥
+HasLast generation next records (n ∷ []) = (generation_of n ≡ generation) × (next_lsn_of n ≡ next) × (length n.segment.records ≡ records)
+HasLast generation next records (n ∷ m ∷ ms) = HasLast generation next records (m ∷ ms)
+
+-- the segments are sound, wherever the indexes end, and the newest of them ends where the log does
+pub record IsLogOf (log : Log) (segments : Segments) : Type 0 where
+  pub sound : AreSound [] None (in_order segments)
+  pub newest_is : HasLast log.generation log.next_lsn log.records (in_order segments)
 
 -- The log has so many records in its newest segment, a closed gate stands behind them, and all is on the disk.
 pub record IsAtRest (log : Log) (s : Story) : Type 0 where
@@ -76,3 +88,12 @@ IsOneOf old new image = (image ≡ old) ⊎ (image ≡ new)
 -- the old segments, these without the one in turn, or these with that one started anew
 abbrev pub IsTurning : ℕ → List ℕ → Segments → Segments → Type 0
 IsTurning k header old image = (image ≡ old) ⊎ ((image ≡ set old k None) ⊎ (image ≡ set old k (Some (started_segment header))))
+
+-- the log may be read, where the indexes end so, and it has these records
+pub record OpensAs (ends : List ℕ) (records : List Record) (segments : Segments) : Type 0 where
+  pub opens : Opens ends segments
+  pub records_are : records_of segments ≡ records
+
+-- it has these records, or these and one more
+abbrev pub HasRecordsOr : List ℕ → List Record → Record → Segments → Type 0
+HasRecordsOr ends records r segments = OpensAs ends records segments ⊎ OpensAs ends (records ++ r ∷ []) segments

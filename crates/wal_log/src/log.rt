@@ -1,12 +1,13 @@
 // The log: its end, where it grows, and the turn to the next segment.
-ghost use Rattle.std.specs.Prelude.{◌≡◌, ◌+◌, ◌^◌, ◌<◌, ◌≤◌, None, Some, true, IfOk, OnOk, set, get_or};
+ghost use Rattle.std.specs.Prelude.{◌≡◌, ◌+◌, ◌^◌, ◌<◌, ◌≤◌, None, Some, true, IfOk, OnOk, set, get_or, ℕ, List};
 ghost use Rattle.dev_model.specs.Counts.{HasCause};
 ghost use Rattle.dev_model.specs.Story.{WhereTold, Did, Ticks, bytes_of};
 ghost use Rattle.dev_model.specs.Moments.{LeavesOnly, WritesWithin};
 ghost use Rattle.wal_log.specs.Places.{segment_start, record_start};
 ghost use Rattle.wal_log.specs.Records.{record_bytes, HasOld};
 ghost use Rattle.wal_log.specs.Segments.{segments_of, with_record, started_segment};
-ghost use Rattle.wal_log.specs.State.{IsAtRest, IsCounted, IsBeforeOrAfter, IsTurning, newest, following, first_header, append_calls, close_calls, close_calls_if, start_calls, turn_calls};
+ghost use Rattle.wal_log.specs.Rules.{Opens, records_of};
+ghost use Rattle.wal_log.specs.State.{IsAtRest, IsCounted, IsLogOf, HasRecordsOr, IsBeforeOrAfter, IsTurning, newest, following, first_header, append_calls, close_calls, close_calls_if, start_calls, turn_calls};
 
 use crate::Record;
 use crate::places::{LOG_PAGES, MOST_RECORDS, OPEN, SEGMENT_BYTES, record_start, segment_start};
@@ -52,6 +53,13 @@ impl Log {
         ensures appended { OnOk result (WhereTold (D.story device.old) (λ s. IsAtRest self.old s → WhereTold (D.story device.new)
             (λ t. segments_of (bytes_of t) ≡ set (segments_of (bytes_of s)) (newest self.old)
                 (with_record (record_bytes logged.now) (get_or (segments_of (bytes_of s)) (newest self.old) None))))) }
+
+        // The rules hold of the log with the new record, and each image reads as the records before it, or these and the new one.
+        ensures log_of { OnOk result (WhereTold (D.story device.old) (λ s. IsAtRest self.old s → IsLogOf self.old (segments_of (bytes_of s)) →
+            WhereTold (D.story device.new) (λ t. IsLogOf self.new (segments_of (bytes_of t))))) }
+        ensures recovers { WhereTold (D.story device.old) (λ s. IsAtRest self.old s → IsLogOf self.old (segments_of (bytes_of s)) →
+            (ends : List ℕ) → Opens ends (segments_of (bytes_of s)) → LeavesOnly s (D.story device.new)
+            (λ image. HasRecordsOr ends (records_of (segments_of (bytes_of s))) logged.now (segments_of image))) }
 
         ensures counted { OnOk result (IsCounted self.new) }
         ensures generation { self.new.generation ≡ self.old.generation }

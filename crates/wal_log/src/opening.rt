@@ -1,5 +1,5 @@
 // The log as a value, from the device.
-ghost use Rattle.std.specs.Prelude.{◌≡◌, ◌==◌, ◌<◌, ◌≤◌, IfOk, IfErr, ℕ, false, get_or};
+ghost use Rattle.std.specs.Prelude.{◌≡◌, ◌==◌, ◌<◌, ◌≤◌, ◌^◌, length, All, IfOk, IfErr, ℕ, false, get_or};
 ghost use Rattle.dev_model.specs.Counts.{HasCause};
 ghost use Rattle.dev_model.specs.Story.{WhereTold, bytes_of};
 ghost use Rattle.wal_log.specs.Places.{ReadsLog};
@@ -7,7 +7,7 @@ ghost use Rattle.wal_log.specs.Places.{segment_start};
 ghost use Rattle.wal_log.specs.Segments.{segments_of};
 ghost use Rattle.wal_log.specs.Rules.{Opens, IsBad, records_of};
 ghost use Rattle.wal_log.specs.Found.{WhereBad, HasCauseOfFault};
-ghost use Rattle.wal_log.specs.State.{IsAtRest, IsSegmentStill, IsStill};
+ghost use Rattle.wal_log.specs.State.{IsAtRest, IsCounted, IsSegmentStill, IsStill};
 
 use crate::places::{LOG_PAGES, OPEN, segment_start};
 use crate::walk::read_segments;
@@ -46,11 +46,15 @@ fn open_headers<D: Device>(device: &mut D) -> Result<[bool; 4], Failed>
 }
 
 impl Log {
-    /// Reads the log. The ends are those of the indexes.
+    /// Reads the log: its end, and all records in order. `ends` are the numbers of the last records that the indexes hold,
+    /// and there is one at least.
     pub fn read_all<D: Device>(device: &mut D, ends: &[u64], alloc: Global) -> Result<(Log, Vec<Record>), LogFault>
         requires pages { LOG_PAGES ≤ D.pages device.old }
+        requires some { 1 ≤ length ends.now }
+        requires below { All (λ last. last < 2 ^ 62) ends.now }
         ensures opens { IfOk result (λ read. WhereTold (D.story device.old) (λ s. IsStill s → Opens ends.now (segments_of (bytes_of s)))) }
         ensures records { IfOk result (λ read. WhereTold (D.story device.old) (λ s. IsStill s → read.1.items ≡ records_of (segments_of (bytes_of s)))) }
+        ensures counted { IfOk result (λ read. IsCounted read.0) }
         ensures at_rest { IfOk result (λ read. WhereTold (D.story device.old) (λ s. IsStill s → WhereTold (D.story device.new) (IsAtRest read.0))) }
         ensures bad { IfErr result (λ fault. WhereBad fault (λ number.
             WhereTold (D.story device.old) (λ s. IsStill s → IsBad ends.now (segments_of (bytes_of s)) number))) }
@@ -66,7 +70,7 @@ impl Log {
             Ok((ended, records)) => {
                 let log = Log {
                     generation: ended.generation,
-                    next_lsn: ended.first_lsn.saturating_add(ended.records),
+                    next_lsn: ended.first_lsn + ended.records,
                     records: ended.records,
                     open_headers,
                 };

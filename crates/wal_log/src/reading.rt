@@ -7,7 +7,7 @@ ghost use Rattle.wal_log.specs.Places.{segment_start, record_start};
 ghost use Rattle.wal_log.specs.Records.{record_of, IsRecord};
 ghost use Rattle.wal_log.specs.Segments.{segment_records, segments_of};
 ghost use Rattle.wal_log.specs.Rules.{HasRecords};
-ghost use Rattle.wal_log.specs.Found.{IsPlaceStill, IsOpenStill, IsFound, HasReadAll, HasCauseOfFault, WhereBad};
+ghost use Rattle.wal_log.specs.Found.{IsPlaceStill, IsOpenStill, IsFound, HasReadAll, HasCauseOfFault, HasNumber, AreFew, WhereBad};
 
 use crate::Record;
 use crate::parsing::parse;
@@ -35,6 +35,7 @@ fn read_place<D: Device>(device: &mut D, segment: u8, place: u64, first_lsn: u64
     requires place { place ≤ MOST_RECORDS }
     requires pages { LOG_PAGES ≤ D.pages device.old }
     ensures found { IfOk result (λ found. WhereTold (D.story device.old) (λ s. IsPlaceStill (record_start segment place) s → IsFound (record_start segment place) (first_lsn + place) (bytes_of s) found)) }
+    ensures number { IfOk result (HasNumber (first_lsn + place)) }
     ensures reads { WhereTold (D.story device.old) (λ s. ReadsLog s (D.story device.new)) }
     ensures same_pages { D.pages device.new ≡ D.pages device.old }
     ensures cause { HasCause (D.fault_count device.old) (D.fault_count device.new) result }
@@ -56,6 +57,7 @@ pub fn read_records<D: Device>(device: &mut D, segment: u8, first_lsn: u64, reco
     requires pages { LOG_PAGES ≤ D.pages device.old }
     ensures read { IfOk result (λ count. WhereTold (D.story device.old) (λ s. IsOpenStill segment s →
         HasReadAll first_lsn count (segment_records segment (bytes_of s)) records.old.items records.new.items)) }
+    ensures few { IfOk result (AreFew first_lsn) }
     ensures bad { IfErr result (λ fault. WhereBad fault (λ number.
         (number ≡ segment) × WhereTold (D.story device.old) (λ s. IsOpenStill segment s → HasRecords first_lsn (segment_records segment (bytes_of s)) → ⊥))) }
     ensures reads { WhereTold (D.story device.old) (λ s. ReadsLog s (D.story device.new)) }

@@ -1,5 +1,5 @@
 // The walk over the segments, from the oldest to the newest.
-ghost use Rattle.std.specs.Prelude.{◌≡◌, ◌+◌, ◌<◌, ◌≤◌, ◌++◌, [], ◌∷◌, Some, None, IfOk, IfErr, OnOk, ℕ, length, drop, replicate, All, take};
+ghost use Rattle.std.specs.Prelude.{◌≡◌, ◌+◌, ◌<◌, ◌≤◌, ◌^◌, ◌++◌, [], ◌∷◌, Some, None, IfOk, IfErr, OnOk, ℕ, length, drop, replicate, All, take};
 ghost use Rattle.std.specs.Bool.{OnTrue, OnFalse};
 ghost use Rattle.dev_model.specs.Story.{WhereTold, bytes_of};
 ghost use Rattle.wal_log.specs.Places.{ReadsLog};
@@ -7,7 +7,7 @@ ghost use Rattle.wal_log.specs.State.{IsStill};
 ghost use Rattle.wal_log.specs.Segments.{segments_of};
 ghost use Rattle.wal_log.specs.Rules.{Opens, IsBad, records_of};
 ghost use Rattle.wal_log.specs.Found.{IsOpenStill, WhereBad, HasCauseOfFault};
-ghost use Rattle.wal_log.specs.Walk.{GoesOn, StartsAfter, EndsThere, HasReadSegment, IsUnsound, IsNewest};
+ghost use Rattle.wal_log.specs.Walk.{GoesOn, StartsAfter, EndsThere, HasReadSegment, IsUnsound, IsNewest, IsEndOf, IsCountedEnd};
 
 use crate::heads::{Head, read_heads};
 use crate::places::LOG_PAGES;
@@ -96,6 +96,7 @@ fn read_segment<D: Device>(device: &mut D, before: Option<Ended>, head: &Head, r
     requires pages { LOG_PAGES ≤ D.pages device.old }
     ensures read { IfOk result (λ ended. WhereTold (D.story device.old) (λ s. IsOpenStill head.now.number s →
         HasReadSegment (bytes_of s) before head.now records.old.items ended records.new.items)) }
+    ensures ended { IfOk result (IsEndOf before head.now) }
     ensures bad { IfErr result (λ fault. WhereBad fault (λ number.
         (number ≡ head.now.number) × WhereTold (D.story device.old) (λ s. IsOpenStill head.now.number s → IsUnsound (bytes_of s) before head.now))) }
     ensures reads { WhereTold (D.story device.old) (λ s. ReadsLog s (D.story device.new)) }
@@ -120,8 +121,11 @@ fn read_segment<D: Device>(device: &mut D, before: Option<Ended>, head: &Head, r
 /// Reads all records of the log, and answers the end of the newest segment with them.
 pub fn read_segments<D: Device>(device: &mut D, ends: &[u64], alloc: Global) -> Result<(Ended, Vec<Record>), LogFault>
     requires pages { LOG_PAGES ≤ D.pages device.old }
+    requires some { 1 ≤ length ends.now }
+    requires below { All (λ last. last < 2 ^ 62) ends.now }
     ensures opens { IfOk result (λ read. WhereTold (D.story device.old) (λ s. IsStill s → Opens ends.now (segments_of (bytes_of s)))) }
     ensures records { IfOk result (λ read. WhereTold (D.story device.old) (λ s. IsStill s → read.1.items ≡ records_of (segments_of (bytes_of s)))) }
+    ensures counted { IfOk result (λ read. IsCountedEnd read.0) }
     ensures newest { IfOk result (λ read. WhereTold (D.story device.old) (λ s. IsStill s → IsNewest (bytes_of s) read.0)) }
     ensures bad { IfErr result (λ fault. WhereBad fault (λ number.
         WhereTold (D.story device.old) (λ s. IsStill s → IsBad ends.now (segments_of (bytes_of s)) number))) }

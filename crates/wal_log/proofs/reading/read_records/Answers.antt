@@ -1,16 +1,17 @@
-use Rattle.std.proofs.Common.{◌≡◌, ◌+◌, ◌∷◌, [], ◌++◌, ℕ, sym, ◌∙◌, ap, arith, subst, refl}
+use Rattle.std.proofs.Common.{◌≡◌, ◌+◌, ◌∷◌, [], ◌++◌, ℕ, sym, ◌∙◌, ap, arith, subst, refl, inl, inr}
 use Rattle.dev_model.specs.Story.{bytes_of}
 use Rattle.dev_model.specs.Laws.Reads.{ReadsWithin-start, ReadsWithin-then}
 use Rattle.wal_log.specs.Places.{IsInLog}
 use Rattle.wal_log.specs.Places.{record_start}
-use Rattle.wal_log.specs.Found.{IsFound}
-use Rattle.wal_log.proofs.Finding.{found-at, place-still, read-none, read-all, read-bad, read-more, read-too_many}
+use Rattle.wal_log.specs.Found.{IsFound, HasNumber}
+use Rattle.wal_log.proofs.Finding.{found-at, place-still, below-more, read-none, read-all, read-bad, read-more, read-too_many}
 use Rattle.wal_log.proofs.reading.read_records.Goals as goal
 
 pub loop-place-init : goal.loop-place-init
 loop-place-init g c = record {
   reads = λ s is. ReadsWithin-start IsInLog s _ is;
   so_far = λ s is still. read-none c.args.first_lsn c.args.segment (bytes_of s) c.args.records.now.items;
+  below = inl refl;
   same_pages = refl;
   faults = omega arith;
 }
@@ -43,6 +44,7 @@ loop-place-preserved g c = record {
   so_far = λ s is still.
     let found = subst (IsFound (record_start c.args.segment c.loop-place.place) (c.args.first_lsn + c.loop-place.place) (bytes_of s)) c.in-Sound.is (found-at s _ (record_start c.args.segment c.loop-place.place) (c.args.first_lsn + c.loop-place.place) c.in-Ok.found (c.loop-place.invariant.reads s is) c.in-Ok.ensures.found (place-still c.args.first_lsn c.loop-place.place c.args.segment s c.args.records.now.items c.loop-place.records.items (omega (arith, c.loop-place-test.true)) (c.loop-place.invariant.so_far s is still) still)) in
     read-more c.args.first_lsn c.loop-place.place c.args.segment (bytes_of s) c.args.records.now.items c.loop-place.records.items (omega (arith, c.loop-place-test.true)) (c.loop-place.invariant.so_far s is still) c.in-Sound.record c.push.new.self.items found.0 found.1 found.2 (grind (arith, c.push.ensures.items, c.if-is_err.ensures.negation));
+  below = inr (below-more c.args.first_lsn c.loop-place.place c.in-Sound.record (subst (HasNumber (c.args.first_lsn + c.loop-place.place)) c.in-Sound.is c.in-Ok.ensures.number));
   same_pages = c.read_place.ensures.same_pages ∙ c.loop-place.invariant.same_pages;
   faults = omega (arith, c.read_place.ensures.cause.later, c.loop-place.invariant.faults);
 }

@@ -5,7 +5,7 @@ use Rattle.wal_log.specs.Places.{IsInLog}
 use Rattle.wal_log.specs.Segments.{segments_of}
 use Rattle.wal_log.specs.Rules.{IsBad}
 use Rattle.wal_log.specs.Walk.{HasReadSegment, IsUnsound}
-use Rattle.wal_log.proofs.Walking.{told-back-open, head-still, walked-unsound, walked-more, walked-all, walked-elsewhere, walked-records, opens, is_bad, is_bad-empty, all_records, WhereBad-map, newest-there}
+use Rattle.wal_log.proofs.Walking.{counted-end, told-back-open, head-still, walked-unsound, walked-more, walked-all, walked-elsewhere, walked-records, opens, is_bad, is_bad-empty, all_records, WhereBad-map, newest-there}
 use Rattle.wal_log.proofs.walk.read_segments.Goals as goal
 
 pub returns-in-Err-read_segment-clause-reads : goal.returns-in-Err-read_segment-clause-reads
@@ -42,6 +42,7 @@ loop-i-preserved g c = record {
   reads = λ s is. ReadsWithin-then IsInLog s _ _ (c.loop-i.invariant.reads s is) (λ t mid. c.read_segment.ensures.reads t mid);
   heads = c.loop-i.invariant.heads;
   walked = λ s is still. walked-more c.args.ends.now (bytes_of s) c.in-Ok.heads.items c.loop-i.i c.loop-i.before c.loop-i.records.items (c.loop-i.invariant.walked s is still) (omega (arith, c.loop-i-test.true, c.len-i-end.ensures, c.in-Ok.heads.ok)) c.index.result.now c.index.ensures c.in-Ok-read_segment.ended c.read_segment.new.records.items (told-back-open (λ b. HasReadSegment b c.loop-i.before c.index.result.now c.loop-i.records.items c.in-Ok-read_segment.ended c.read_segment.new.records.items) c.index.result.now.number s _ (c.loop-i.invariant.reads s is) c.in-Ok-read_segment.ensures.read (head-still s c.in-Ok.heads.items c.loop-i.i c.index.result.now (c.loop-i.invariant.heads s is still) (omega (arith, c.loop-i-test.true, c.len-i-end.ensures, c.in-Ok.heads.ok)) c.index.ensures still)) (omega (arith, c.loop-i-test.true, c.len-i-end.ensures, c.if-i-len.false, c.len.ensures, c.in-Ok.heads.ok));
+  ended = c.in-Ok-read_segment.ensures.ended.numbers;
   unfinished = inr (omega (arith, c.loop-i-test.true, c.len-i-end.ensures, c.if-i-len.false, c.len.ensures, c.in-Ok.heads.ok));
   same_pages = c.read_segment.ensures.same_pages ∙ c.loop-i.invariant.same_pages;
   faults = omega (arith, c.read_segment.ensures.cause.later, c.loop-i.invariant.faults);
@@ -56,3 +57,7 @@ pub returns-then-i-len-clause-newest : goal.returns-then-i-len-clause-newest
 returns-then-i-len-clause-newest g c s is still =
     newest-there (bytes_of s) c.in-Ok.heads.items c.loop-i.i c.index.result.now c.loop-i.before c.loop-i.records.items c.read_segment.new.records.items c.in-Ok-read_segment.ended (c.loop-i.invariant.heads s is still)
     (omega (arith, c.loop-i-test.true, c.len-i-end.ensures, c.in-Ok.heads.ok)) c.index.ensures (told-back-open (λ b. HasReadSegment b c.loop-i.before c.index.result.now c.loop-i.records.items c.in-Ok-read_segment.ended c.read_segment.new.records.items) c.index.result.now.number s _ (c.loop-i.invariant.reads s is) c.in-Ok-read_segment.ensures.read (head-still s c.in-Ok.heads.items c.loop-i.i c.index.result.now (c.loop-i.invariant.heads s is still) (omega (arith, c.loop-i-test.true, c.len-i-end.ensures, c.in-Ok.heads.ok)) c.index.ensures still))
+
+pub returns-then-i-len-clause-counted : goal.returns-then-i-len-clause-counted
+returns-then-i-len-clause-counted g c =
+    counted-end c.loop-i.before c.index.result.now c.in-Ok-read_segment.ended c.args.ends.now c.loop-i.invariant.ended c.in-Ok-read_segment.ensures.ended c.if-not-all_end_there.ensures.yes c.requires.some c.requires.below

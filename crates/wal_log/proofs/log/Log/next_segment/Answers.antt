@@ -1,6 +1,6 @@
-use Rattle.std.proofs.Common.{◌≡◌, ◌+◌, ◌++◌, [], ◌∷◌, ℕ, sym, ◌∙◌, ap, arith, length, refl, Ok, Err, get_or, set, false, true}
+use Rattle.std.proofs.Common.{◌≡◌, ◌+◌, ◌++◌, [], ◌∷◌, ℕ, sym, ◌∙◌, ap, arith, length, refl, Ok, Err, get_or, set, false, true, rules}
 use Rattle.std.proofs.lemmas.Nat.{mod_below}
-use Rattle.dev_model.specs.Story.{Story, Calls}
+use Rattle.dev_model.specs.Story.{Story, Calls, HasStoppedIn}
 use Rattle.wal_log.specs.State.{following, close_calls_if, start_calls, turn_calls}
 use Rattle.wal_log.proofs.Planned.{told-before, told-end, stopped-first, stopped-second, done-both}
 use Rattle.wal_log.proofs.Turning.{turn-within, turn-leaves-only, turned-segments, turned-rests}
@@ -13,7 +13,8 @@ pub returns-in_err-close_if_open-clause-any_moment : goal.returns-in_err-close_i
 returns-in_err-close_if_open-clause-any_moment g c s is rest = turn-leaves-only s c.args.self.now rest (mod_below _ 4 (omega arith)) {T = Unit {0}} {E = Unit {0}} (g.D.Device.story c.args.device.now) (g.D.Device.story c.close_if_open.new.device) (Err tt) is (stopped-first (close_calls_if (get_or c.args.self.now.open_headers c.from.result false) (following c.args.self.now)) (start_calls (following c.args.self.now) (c.args.self.now.generation + 1) c.args.self.now.next_lsn) (turn_calls c.args.self.now) (ap (λ (n : ℕ). close_calls_if (get_or c.args.self.now.open_headers n false) (following c.args.self.now) ++ start_calls (following c.args.self.now) (c.args.self.now.generation + 1) c.args.self.now.next_lsn) c.from.ensures) (g.D.Device.story c.args.device.now) (g.D.Device.story c.close_if_open.new.device) c.in_err-close_if_open.ensures.did)
 
 pub returns-in_err-start_segment-clause-did : goal.returns-in_err-start_segment-clause-did
-returns-in_err-start_segment-clause-did g c = stopped-second (close_calls_if (get_or c.args.self.now.open_headers c.from.result false) (following c.args.self.now)) (start_calls (following c.args.self.now) (c.args.self.now.generation + 1) c.args.self.now.next_lsn) (turn_calls c.args.self.now) (ap (λ (n : ℕ). close_calls_if (get_or c.args.self.now.open_headers n false) (following c.args.self.now) ++ start_calls (following c.args.self.now) (c.args.self.now.generation + 1) c.args.self.now.next_lsn) c.from.ensures) (g.D.Device.story c.args.device.now) (g.D.Device.story c.close_if_open.new.device) (g.D.Device.story c.start_segment.new.device) c.in_ok-close_if_open.ensures.did c.in_err-start_segment.ensures.did
+returns-in_err-start_segment-clause-did g c = let stopped : HasStoppedIn (turn_calls c.args.self.now) (g.D.Device.story c.args.device.now) (g.D.Device.story c.start_segment.new.device) = stopped-second (close_calls_if (get_or c.args.self.now.open_headers c.from.result false) (following c.args.self.now)) (start_calls (following c.args.self.now) (c.args.self.now.generation + 1) c.args.self.now.next_lsn) (turn_calls c.args.self.now) (ap (λ (n : ℕ). close_calls_if (get_or c.args.self.now.open_headers n false) (following c.args.self.now) ++ start_calls (following c.args.self.now) (c.args.self.now.generation + 1) c.args.self.now.next_lsn) c.from.ensures) (g.D.Device.story c.args.device.now) (g.D.Device.story c.close_if_open.new.device) (g.D.Device.story c.start_segment.new.device) c.in_ok-close_if_open.ensures.did c.in_err-start_segment.ensures.did in
+    search rules
 
 pub returns-in_err-start_segment-clause-within : goal.returns-in_err-start_segment-clause-within
 returns-in_err-start_segment-clause-within g c s is = turn-within c.args.self.now s {T = Unit {0}} {E = Unit {0}} (g.D.Device.story c.args.device.now) (g.D.Device.story c.start_segment.new.device) (Err tt) is (stopped-second (close_calls_if (get_or c.args.self.now.open_headers c.from.result false) (following c.args.self.now)) (start_calls (following c.args.self.now) (c.args.self.now.generation + 1) c.args.self.now.next_lsn) (turn_calls c.args.self.now) (ap (λ (n : ℕ). close_calls_if (get_or c.args.self.now.open_headers n false) (following c.args.self.now) ++ start_calls (following c.args.self.now) (c.args.self.now.generation + 1) c.args.self.now.next_lsn) c.from.ensures) (g.D.Device.story c.args.device.now) (g.D.Device.story c.close_if_open.new.device) (g.D.Device.story c.start_segment.new.device) c.in_ok-close_if_open.ensures.did c.in_err-start_segment.ensures.did)
