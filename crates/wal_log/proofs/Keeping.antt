@@ -102,7 +102,7 @@ length-ordered j (None ∷ rest) = omega (arith, length-ordered (j + 1) rest)
 length-ordered j (Some s ∷ rest) = omega (arith, length-ordered (j + 1) rest, length-placed (record { number = j; segment = s }) (ordered (j + 1) rest))
 
 -- the generations rise by one from each segment to the next
-generations : (ends : List ℕ) (before : Option Numbered) (n : Numbered) (ns : List Numbered) (generation next records : ℕ) → AreSound ends before (n ∷ ns) → HasLast generation next records (n ∷ ns) → generation_of n + length ns ≡ generation
+pub generations : (ends : List ℕ) (before : Option Numbered) (n : Numbered) (ns : List Numbered) (generation next records : ℕ) → AreSound ends before (n ∷ ns) → HasLast generation next records (n ∷ ns) → generation_of n + length ns ≡ generation
 generations ends before n [] generation next records all last = omega (arith, last.0)
 generations ends before n (m ∷ ms) generation next records all last =
     omega (arith, all.1.0.segment.start.follows.0, generations ends (Some n) m ms generation next records all.1 last)
@@ -172,15 +172,15 @@ module _ (ends : List ℕ) (k : ℕ) (bytes : List ℕ) (generation next records
       elsewhere : (g d last : ℕ) → g + suc d ≡ last → d ≤ 2 → g % 4 ≡ last % 4 → ⊥
       elsewhere g d last is few same = omega (arith, is, few, same)
 
-opens-kept : (ends : List ℕ) (ns : List Numbered) → 0 < length ns → AreSound ends None ns → OpensFrom ends ns
+pub opens-kept : (ends : List ℕ) (ns : List Numbered) → 0 < length ns → AreSound ends None ns → OpensFrom ends ns
 opens-kept ends [] some all = absurd (omega (arith, some))
 opens-kept ends (n ∷ ns) some all = all
 
-sound-from : (ends : List ℕ) (ns : List Numbered) → OpensFrom ends ns → AreSound ends None ns
+pub sound-from : (ends : List ℕ) (ns : List Numbered) → OpensFrom ends ns → AreSound ends None ns
 sound-from ends [] opens = absurd opens
 sound-from ends (n ∷ ns) opens = opens
 
-some-last : (generation next records : ℕ) (ns : List Numbered) → HasLast generation next records ns → 0 < length ns
+pub some-last : (generation next records : ℕ) (ns : List Numbered) → HasLast generation next records ns → 0 < length ns
 some-last generation next records [] last = absurd last
 some-last generation next records (n ∷ ns) last = omega arith
 

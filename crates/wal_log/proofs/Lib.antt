@@ -9,3 +9,4 @@ pub mod Turning
 pub mod Walking
 pub mod LogFound
 pub mod Keeping
+pub mod Renewing

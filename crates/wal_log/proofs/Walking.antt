@@ -6,7 +6,7 @@ use Rattle.std.proofs.Math.Seq.{take-length, drop-length}
 use Rattle.dev_model.specs.Story.{Bytes, Story, after, bytes_of, WhereTold}
 use Rattle.wal_log.specs.Places.{ReadsLog}
 use Rattle.wal_log.proofs.Finding.{IsStill-after, IsSegmentStill-after, IsOpenStill-after, bytes_of-after}
-use Rattle.wal_log.specs.State.{IsStill, IsSegmentStill}
+use Rattle.wal_log.specs.State.{IsStill, IsSegmentStill, HasLast}
 use Rattle.wal_log.specs.Found.{IsOpenStill}
 use Rattle.wal_log.specs.Records.{record_of}
 use Rattle.wal_log.specs.Headers.{first_lsn_in, generation_in}
@@ -224,12 +224,25 @@ head-still s heads i h are lt here still =
     let is_open : IsOpenHead (bytes_of s) h = subst (IsOpenHead (bytes_of s)) (sym here) (open-at (bytes_of s) heads i h lt (subst (AreOpen (bytes_of s)) (sym are) (open-above (bytes_of s) 4 0 (omega arith)))) in
     record { started = is_open.1; still = still h.number is_open.0 }
 
+-- the last of a list
+last-at : (ns : List Numbered) (i : ℕ) (n d : Numbered) → i + 1 ≡ length ns → get_or ns i d ≡ n → HasLast (generation_in n.segment.header) (first_lsn_in n.segment.header + length n.segment.records) (length n.segment.records) ns
+last-at [] i n d last is = absurd (omega (arith, last))
+last-at (m ∷ []) zero n d last is = subst (λ (x : Numbered). HasLast (generation_in n.segment.header) (first_lsn_in n.segment.header + length n.segment.records) (length n.segment.records) (x ∷ [])) (sym is) (refl, refl, refl)
+last-at (m ∷ []) (suc i) n d last is = absurd (omega (arith, last))
+last-at (m ∷ p ∷ ms) zero n d last is = absurd (omega (arith, last))
+last-at (m ∷ p ∷ ms) (suc i) n d last is = last-at (p ∷ ms) i n d (omega (arith, last)) is
+
 -- the last segment that was read
-pub newest-there : (b : Bytes) (heads : List Head) (i : ℕ) (h : Head) (before : Option Ended) (old now : List Record) (at_end : Ended) → heads ≡ open_heads b → i < length heads → h ≡ get_or heads i h → HasReadSegment b before h old at_end now → IsNewest b at_end
-newest-there b heads i h before old now at_end are lt here read =
+pub newest-there : (b : Bytes) (heads : List Head) (i : ℕ) (h : Head) (before : Option Ended) (old now : List Record) (at_end : Ended) → heads ≡ open_heads b → i < length heads → h ≡ get_or heads i h → HasReadSegment b before h old at_end now → i + 1 ≡ length heads → IsNewest b at_end
+newest-there b heads i h before old now at_end are lt here read last =
     let is_open : IsOpenHead b h = subst (IsOpenHead b) (sym here) (open-at b heads i h lt (subst (AreOpen b) (sym are) (open-above b 4 0 (omega arith)))) in
     let number : h.number ≡ at_end.generation % 4 = sym (ap (λ (e : Ended). e.generation % 4) read.ended ∙ read.start.place) in
+    let item : get_or (map (numbered_at b) heads) i (numbered_at b h) ≡ numbered_at b h = get_or-map (numbered_at b) heads i h (numbered_at b h) lt ∙ ap (numbered_at b) (sym here) in
+    let whole : HasLast (generation_in h.bytes) (first_lsn_in h.bytes + length (segment_records h.number b)) (length (segment_records h.number b)) (map (numbered_at b) heads) =
+    last-at (map (numbered_at b) heads) i (numbered_at b h) (numbered_at b h) (last ∙ sym (length-map heads (numbered_at b))) item in
     record {
+      last = subst (λ (l : List Numbered). HasLast at_end.generation (at_end.first_lsn + at_end.records) at_end.records l) (same_order [] b heads are)
+        (subst (λ (e : Ended). HasLast e.generation (e.first_lsn + e.records) e.records (map (numbered_at b) heads)) (sym read.ended) whole);
       started = subst (λ (k : ℕ). b (segment_start k) ≡ 165) number is_open.1;
       counts = subst (λ (k : ℕ). length (segment_records k b) ≡ at_end.records) number (sym (ap (λ (e : Ended). e.records) read.ended));
     }

@@ -97,3 +97,7 @@ pub record OpensAs (ends : List ℕ) (records : List Record) (segments : Segment
 -- it has these records, or these and one more
 abbrev pub HasRecordsOr : List ℕ → List Record → Record → Segments → Type 0
 HasRecordsOr ends records r segments = OpensAs ends records segments ⊎ OpensAs ends (records ++ r ∷ []) segments
+
+-- it has the same records, but for those of the segment in turn where that is closed or used again
+abbrev pub HasSameRecords : List ℕ → ℕ → Segments → Segments → Type 0
+HasSameRecords ends k old segments = OpensAs ends (records_of old) segments ⊎ OpensAs ends (records_of (set old k None)) segments

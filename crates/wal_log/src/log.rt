@@ -1,5 +1,5 @@
 // The log: its end, where it grows, and the turn to the next segment.
-ghost use Rattle.std.specs.Prelude.{◌≡◌, ◌+◌, ◌^◌, ◌<◌, ◌≤◌, None, Some, true, IfOk, OnOk, set, get_or, ℕ, List};
+ghost use Rattle.std.specs.Prelude.{◌≡◌, ◌+◌, ◌^◌, ◌<◌, ◌≤◌, None, Some, true, IfOk, OnOk, set, get_or, ℕ, List, All};
 ghost use Rattle.dev_model.specs.Counts.{HasCause};
 ghost use Rattle.dev_model.specs.Story.{WhereTold, Did, Ticks, bytes_of};
 ghost use Rattle.dev_model.specs.Moments.{LeavesOnly, WritesWithin};
@@ -7,7 +7,7 @@ ghost use Rattle.wal_log.specs.Places.{segment_start, record_start};
 ghost use Rattle.wal_log.specs.Records.{record_bytes, HasOld};
 ghost use Rattle.wal_log.specs.Segments.{segments_of, with_record, started_segment};
 ghost use Rattle.wal_log.specs.Rules.{Opens, records_of};
-ghost use Rattle.wal_log.specs.State.{IsAtRest, IsCounted, IsLogOf, HasRecordsOr, IsBeforeOrAfter, IsTurning, newest, following, first_header, append_calls, close_calls, close_calls_if, start_calls, turn_calls};
+ghost use Rattle.wal_log.specs.State.{IsAtRest, IsCounted, IsLogOf, HasRecordsOr, HasSameRecords, IsBeforeOrAfter, IsTurning, newest, following, first_header, append_calls, close_calls, close_calls_if, start_calls, turn_calls};
 
 use crate::Record;
 use crate::places::{LOG_PAGES, MOST_RECORDS, OPEN, SEGMENT_BYTES, record_start, segment_start};
@@ -94,6 +94,14 @@ impl Log {
         ensures at_rest { OnOk result (WhereTold (D.story device.old) (IsAtRest self.old) → WhereTold (D.story device.new) (IsAtRest self.new)) }
         ensures turned { OnOk result (WhereTold (D.story device.old) (λ s. IsAtRest self.old s → WhereTold (D.story device.new)
             (λ t. segments_of (bytes_of t) ≡ set (segments_of (bytes_of s)) (following self.old) (Some (started_segment (first_header self.old)))))) }
+
+        // The rules hold of the log afterwards, and where the indexes end right before the newest segment, each image reads the same
+        // records, but for those of the segment that is used again.
+        ensures log_of { OnOk result (WhereTold (D.story device.old) (λ s. IsAtRest self.old s → IsLogOf self.old (segments_of (bytes_of s)) →
+            WhereTold (D.story device.new) (λ t. IsLogOf self.new (segments_of (bytes_of t))))) }
+        ensures recovers { WhereTold (D.story device.old) (λ s. IsAtRest self.old s → IsLogOf self.old (segments_of (bytes_of s)) →
+            (ends : List ℕ) → All (λ last. last + 1 + self.old.records ≡ self.old.next_lsn) ends → Opens ends (segments_of (bytes_of s)) →
+            LeavesOnly s (D.story device.new) (λ image. HasSameRecords ends (following self.old) (segments_of (bytes_of s)) (segments_of image))) }
 
         ensures counted { OnOk result (IsCounted self.new) }
         ensures generation { OnOk result (self.new.generation ≡ self.old.generation + 1) }

@@ -7,7 +7,7 @@ ghost use Rattle.wal_log.specs.Places.{segment_start};
 ghost use Rattle.wal_log.specs.Segments.{segments_of};
 ghost use Rattle.wal_log.specs.Rules.{Opens, IsBad, records_of};
 ghost use Rattle.wal_log.specs.Found.{WhereBad, HasCauseOfFault};
-ghost use Rattle.wal_log.specs.State.{IsAtRest, IsCounted, IsSegmentStill, IsStill};
+ghost use Rattle.wal_log.specs.State.{IsAtRest, IsCounted, IsLogOf, IsSegmentStill, IsStill};
 
 use crate::places::{LOG_PAGES, OPEN, segment_start};
 use crate::walk::read_segments;
@@ -55,6 +55,7 @@ impl Log {
         ensures opens { IfOk result (λ read. WhereTold (D.story device.old) (λ s. IsStill s → Opens ends.now (segments_of (bytes_of s)))) }
         ensures records { IfOk result (λ read. WhereTold (D.story device.old) (λ s. IsStill s → read.1.items ≡ records_of (segments_of (bytes_of s)))) }
         ensures counted { IfOk result (λ read. IsCounted read.0) }
+        ensures log_of { IfOk result (λ read. WhereTold (D.story device.old) (λ s. IsStill s → IsLogOf read.0 (segments_of (bytes_of s)))) }
         ensures at_rest { IfOk result (λ read. WhereTold (D.story device.old) (λ s. IsStill s → WhereTold (D.story device.new) (IsAtRest read.0))) }
         ensures bad { IfErr result (λ fault. WhereBad fault (λ number.
             WhereTold (D.story device.old) (λ s. IsStill s → IsBad ends.now (segments_of (bytes_of s)) number))) }

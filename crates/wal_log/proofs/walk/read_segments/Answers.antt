@@ -56,7 +56,7 @@ returns-clause-bad g c s is still =
 pub returns-then-i-len-clause-newest : goal.returns-then-i-len-clause-newest
 returns-then-i-len-clause-newest g c s is still =
     newest-there (bytes_of s) c.in-Ok.heads.items c.loop-i.i c.index.result.now c.loop-i.before c.loop-i.records.items c.read_segment.new.records.items c.in-Ok-read_segment.ended (c.loop-i.invariant.heads s is still)
-    (omega (arith, c.loop-i-test.true, c.len-i-end.ensures, c.in-Ok.heads.ok)) c.index.ensures (told-back-open (λ b. HasReadSegment b c.loop-i.before c.index.result.now c.loop-i.records.items c.in-Ok-read_segment.ended c.read_segment.new.records.items) c.index.result.now.number s _ (c.loop-i.invariant.reads s is) c.in-Ok-read_segment.ensures.read (head-still s c.in-Ok.heads.items c.loop-i.i c.index.result.now (c.loop-i.invariant.heads s is still) (omega (arith, c.loop-i-test.true, c.len-i-end.ensures, c.in-Ok.heads.ok)) c.index.ensures still))
+    (omega (arith, c.loop-i-test.true, c.len-i-end.ensures, c.in-Ok.heads.ok)) c.index.ensures (told-back-open (λ b. HasReadSegment b c.loop-i.before c.index.result.now c.loop-i.records.items c.in-Ok-read_segment.ended c.read_segment.new.records.items) c.index.result.now.number s _ (c.loop-i.invariant.reads s is) c.in-Ok-read_segment.ensures.read (head-still s c.in-Ok.heads.items c.loop-i.i c.index.result.now (c.loop-i.invariant.heads s is still) (omega (arith, c.loop-i-test.true, c.len-i-end.ensures, c.in-Ok.heads.ok)) c.index.ensures still)) (omega (arith, c.if-i-len.true, c.len.ensures, c.in-Ok.heads.ok))
 
 pub returns-then-i-len-clause-counted : goal.returns-then-i-len-clause-counted
 returns-then-i-len-clause-counted g c =

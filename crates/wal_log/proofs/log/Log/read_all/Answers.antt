@@ -6,7 +6,7 @@ use Rattle.wal_log.specs.Segments.{segments_of}
 use Rattle.wal_log.specs.Rules.{Opens, IsBad, records_of}
 use Rattle.wal_log.specs.Walk.{IsNewest}
 use Rattle.wal_log.proofs.Walking.{told-back, WhereBad-map}
-use Rattle.wal_log.proofs.LogFound.{at_rest-found}
+use Rattle.wal_log.proofs.LogFound.{at_rest-found, log_of-found}
 use Rattle.wal_log.proofs.log.Log.read_all.Goals as goal
 
 pub returns-in-Ok-read_segments-clause-reads : goal.returns-in-Ok-read_segments-clause-reads
@@ -32,3 +32,8 @@ returns-in-Ok-read_segments-clause-at_rest g c s is still t now =
 pub returns-in-Err-read_segments-clause-bad : goal.returns-in-Err-read_segments-clause-bad
 returns-in-Err-read_segments-clause-bad g c =
     WhereBad-map c.in-Err-read_segments.fault _ _ (λ number bad s is still. told-back (λ (b : Bytes). IsBad c.args.ends.now (segments_of b) number) s _ (c.open_headers.ensures.reads s is) bad still) c.in-Err-read_segments.ensures.bad
+
+pub returns-in-Ok-read_segments-clause-log_of : goal.returns-in-Ok-read_segments-clause-log_of
+returns-in-Ok-read_segments-clause-log_of g c s is still =
+    log_of-found c.args.ends.now (bytes_of s) c.in-Ok-read_segments.ended _ (returns-in-Ok-read_segments-clause-opens g c s is still)
+    (told-back (λ (b : Bytes). IsNewest b c.in-Ok-read_segments.ended) s _ (c.open_headers.ensures.reads s is) c.in-Ok-read_segments.ensures.newest still) refl refl refl
