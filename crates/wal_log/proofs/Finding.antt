@@ -1,11 +1,11 @@
 -- What is found at the place of a record, and what a walk over these places has read.
-use Rattle.std.proofs.Common.{◌≡◌, ◌≢◌, inl, inr, ⊎_elim, ℕ, zero, suc, ◌+◌, ◌-◌, ◌*◌, ◌<◌, ◌≤◌, ◌^◌, List, [], ◌∷◌, ◌++◌, length, get_or, take, drop, map, refl, sym, ◌∙◌, ap, subst, arith, Option, Some, ◌⊎◌, length-append, append_assoc}
-use Rattle.std.proofs.lemmas.List.{append-nil, get_or_append_left, get_or_at, length_push, map-append}
-use Rattle.std.proofs.Math.Seq.{take-length}
+use Rattle.std.proofs.Common.{◌≡◌, ◌≢◌, inl, inr, ⊎_elim, ℕ, zero, suc, ◌+◌, ◌-◌, ◌*◌, ◌<◌, ◌≤◌, ◌^◌, ◌%◌, List, [], ◌∷◌, ◌++◌, length, get_or, take, drop, map, refl, sym, ◌∙◌, ap, subst, arith, Option, Some, ◌⊎◌, length-append, append_assoc}
+use Rattle.std.proofs.lemmas.List.{append-nil, get_or_append_left, get_or_at, length_push, map-append, length-drop, length-take-le}
+use Rattle.std.proofs.Math.Seq.{get_or-take, get_or-drop}
 use Rattle.std.proofs.lemmas.Option.{same_Some}
 use Rattle.dev_model.specs.Story.{Bytes, Story, after, bytes_of, part, IsSettled, IsReadable, IsReadFrom, WhereTold}
 use Rattle.wal_log.specs.Places.{ReadsLog}
-use Rattle.dev_model.specs.Laws.Ranges.{part-read, length-part}
+use Rattle.dev_model.specs.Laws.Ranges.{part-list}
 use Rattle.dev_model.specs.Laws.Images.{IsReadable-settled}
 use Rattle.dev_model.specs.Laws.Reads.{IsSettled-reads, bytes_of-reads}
 use Rattle.wal_log.specs.State.{IsSegmentStill, IsStill}
@@ -14,10 +14,10 @@ use Rattle.wal_log.specs.Places.{segment_start, record_start}
 use Rattle.wal_log.specs.Records.{record_of, IsRecord}
 use Rattle.wal_log.specs.Segments.{segment_records, open_records, IsLooked}
 use Rattle.wal_log.specs.Rules.{AreRecords, HasRecords}
-use Rattle.wal_log.specs.Found.{HasReadSome, HasReadAll, IsFound, IsPlaceStill, IsOpenStill, HasNumber}
+use Rattle.wal_log.specs.Found.{HasReadSome, HasReadAll, IsFound, IsPlaceStill, IsOpenStill, HasNumber, IsFoundIn, HoldsPlaces, window_start}
 use Rattle.wal_log.specs.declared.records.Record.{Record}
 use Rattle.wal_log.specs.declared.reading.Found.{Found}
-use Rattle.wal_log.specs.declared.reading.Found.TheVariants.{Sound}
+use Rattle.wal_log.specs.declared.reading.Found.TheVariants.{Closed, Bad, Sound}
 use Rattle.wal_log.proofs.Agreeing.{open_records-shut, open_records-open}
 
 -- what was on the disk is there after reads, and the bytes are the same
@@ -52,29 +52,47 @@ found-at s mid at lsn f reads found still =
     let t : Story = after s reads.calls in
     subst (λ (b : Bytes). IsFound at lsn b f) (bytes_of-after s t mid reads reads.told) (found t reads.told (IsPlaceStill-after s t mid reads reads.told at still))
 
--- the bytes that a read of a whole place gives
-module _ (s : Story) (at place : ℕ) (buf : List ℕ) (is : at ≡ place) (width : length buf ≡ 96) (still : IsPlaceStill place s) (read : IsReadFrom at buf s) where
-  pub place-gate : get_or buf 0 0 ≡ bytes_of s place
+-- what a window has of a place
+module _ (s : Story) (start at place : ℕ) (window : List ℕ) (is : start + at ≡ place) (width : length window ≡ 4096) (within : at + 96 ≤ 4096) (still : IsPlaceStill place s) (read : IsReadFrom start window s) where
+  place-gate : get_or window at 0 ≡ bytes_of s place
   place-gate =
-      let here : at + 0 ≡ place = omega (arith, is) in
-      read 0 (omega (arith, width)) (IsReadable-settled s.past (at + 0) (subst (λ (n : ℕ). IsSettled s.past n) (sym here) still.gate)) ∙ ap (bytes_of s) here
+      read at (omega (arith, width, within)) (IsReadable-settled s.past (start + at) (subst (λ (n : ℕ). IsSettled s.past n) (sym is) still.gate)) ∙ ap (bytes_of s) is
 
-  pub place-read : get_or buf 0 0 ≡ 165 → buf ≡ bytes_of s place ∷ part (place + 1) 95 (bytes_of s)
-  unfolding part
-  place-read is_open =
-      let all : (i : ℕ) → at ≤ i → i < at + length buf → IsReadable s.past i = λ i low high. IsReadable-settled s.past i (settled i (omega (arith, is, low)) (omega (arith, is, high, width))) in
-      sym (part-read at buf s read all) ∙ (λ j. part (is j) (width j) (bytes_of s))
+  place-body : get_or window at 0 ≡ 165 → take 95 (drop (at + 1) window) ≡ part (place + 1) 95 (bytes_of s)
+  place-body is_open = sym (part-list (place + 1) 95 (bytes_of s) (take 95 (drop (at + 1) window)) long each)
     where
-      settled : (i : ℕ) → place ≤ i → i < place + 96 → IsSettled s.past i
-      settled i low high = ⊎_elim (λ here. subst (λ (n : ℕ). IsSettled s.past n) (sym here) still.gate) (λ behind. still.body (sym place-gate ∙ is_open) i behind high) (here_or_behind i place low)
-        where
-          here_or_behind : (i n : ℕ) → n ≤ i → (i ≡ n) ⊎ (n < i)
-          here_or_behind i n low = grind arith
+      long : length (take 95 (drop (at + 1) window)) ≡ 95
+      long = length-take-le 95 (drop (at + 1) window) (omega (arith, length-drop (at + 1) window, width, within))
 
--- the bytes behind the gate
-pub body-read : (place : ℕ) (bytes : Bytes) (buf : List ℕ) → buf ≡ bytes place ∷ part (place + 1) 95 bytes → take 95 (drop 1 buf) ≡ part (place + 1) 95 bytes
-body-read place bytes buf is =
-    ap (λ (l : List ℕ). take 95 (drop 1 l)) is ∙ ap (λ (n : ℕ). take n (part (place + 1) 95 bytes)) (sym (length-part (place + 1) 95 bytes)) ∙ take-length (part (place + 1) 95 bytes)
+      each : (n : ℕ) → n < 95 → bytes_of s (place + 1 + n) ≡ get_or (take 95 (drop (at + 1) window)) n 0
+      each n lt =
+          let there : start + (at + 1 + n) ≡ place + 1 + n = omega (arith, is) in
+          sym (get_or-take 95 (drop (at + 1) window) n 0 lt ∙ get_or-drop (at + 1) window n 0
+            ∙ read (at + 1 + n) (omega (arith, width, within, lt)) (IsReadable-settled s.past (start + (at + 1 + n)) (subst (λ (m : ℕ). IsSettled s.past m) (sym there) (still.body (sym place-gate ∙ is_open) (place + 1 + n) (omega arith) (omega (arith, lt)))))
+            ∙ ap (bytes_of s) there)
+
+  pub found-in : (lsn : ℕ) (f : Found) → IsFoundIn at lsn window f → IsFound place lsn (bytes_of s) f
+  found-in lsn Closed shut = λ is_open. shut (place-gate ∙ is_open)
+  found-in lsn Bad bad = (sym place-gate ∙ bad.0, λ lawful. bad.1 (subst (IsRecord lsn) (sym (place-body bad.0)) lawful))
+  found-in lsn (Sound r) sound = (sym place-gate ∙ sound.0, subst (IsRecord lsn) (place-body sound.0) sound.1, sound.2 ∙ ap record_of (place-body sound.0))
+
+-- the next place in the window
+pub holds-next : (k place : ℕ) (window : List ℕ) (s : Story) → IsReadFrom (window_start k place) window s → HoldsPlaces k (place + 1) window s
+holds-next k place window s read inside = subst (λ (at : ℕ). IsReadFrom at window s) (same_window k place inside) read
+  where
+    same_window : (k place : ℕ) → (place + 1) % 42 ≢ 0 → window_start k place ≡ window_start k (place + 1)
+    same_window k place inside = ap (record_start k) (same_start place inside)
+      where
+        same_start : (place : ℕ) → (place + 1) % 42 ≢ 0 → place - place % 42 ≡ place + 1 - (place + 1) % 42
+        same_start place inside = grind (arith, inside)
+
+-- the bytes behind a gate, as the code takes them
+pub slice-is : (at : ℕ) (window : List ℕ) → take (at + 96 - (at + 1)) (drop (at + 1) window) ≡ take 95 (drop (at + 1) window)
+slice-is at window = let e : at + 96 - (at + 1) ≡ 95 = omega arith in ap (λ (n : ℕ). take n (drop (at + 1) window)) e
+
+-- where a place stands in its window
+pub place-in : (k place : ℕ) → window_start k place + 96 * (place % 42) ≡ record_start k place
+place-in k place = omega arith
 
 module _ (first place k : ℕ) (bytes : Bytes) (before now : List Record) (few : place ≤ 2048) (read : HasReadSome first place k bytes before now) where
   abbrev here : List ℕ

@@ -1,7 +1,7 @@
 -- What is found where a record may stand, and what a segment gives.
-use Rattle.std.specs.Prelude.{◌≡◌, ◌≢◌, ℕ, ◌+◌, ◌-◌, ◌<◌, ◌≤◌, ◌^◌, ◌⊎◌, List, ◌++◌, length, map, Result, IfErr}
+use Rattle.std.specs.Prelude.{◌≡◌, ◌≢◌, ◌%◌, take, drop, get_or, ℕ, ◌+◌, ◌-◌, ◌<◌, ◌≤◌, ◌^◌, ◌⊎◌, List, ◌++◌, length, map, Result, IfErr}
 use Rattle.dev_model.specs.Counts.{Rose}
-use Rattle.dev_model.specs.Story.{Bytes, Story, bytes_of, part, IsSettled}
+use Rattle.dev_model.specs.Story.{Bytes, Story, bytes_of, part, IsSettled, IsReadFrom}
 use Rattle.wal_log.specs.Records.{IsRecord, record_of}
 use Rattle.wal_log.specs.Rules.{HasRecords, AreRecords}
 use Rattle.wal_log.specs.Places.{segment_start, record_start}
@@ -33,6 +33,20 @@ pub record HasReadAll (first count : ℕ) (records : List (List ℕ)) (before no
   pub counts : length records ≡ count
   pub sound : HasRecords first records
   pub added : now ≡ before ++ map record_of records
+
+-- where the window begins that has a place
+abbrev pub window_start : ℕ → ℕ → ℕ
+window_start k place = record_start k (place - place % 42)
+
+-- The window has what stands at a place and behind it, where that isn't the first place of the next window.
+abbrev pub HoldsPlaces : ℕ → ℕ → List ℕ → Story → Type 0
+HoldsPlaces k place window s = place % 42 ≢ 0 → IsReadFrom (window_start k place) window s
+
+-- what is found in a window, at a place in it
+abbrev pub IsFoundIn : ℕ → ℕ → List ℕ → Found → Type 0
+IsFoundIn at lsn window Closed = get_or window at 0 ≢ 165
+IsFoundIn at lsn window Bad = (get_or window at 0 ≡ 165) × (IsRecord lsn (take 95 (drop (at + 1) window)) → ⊥)
+IsFoundIn at lsn window (Sound r) = (get_or window at 0 ≡ 165) × IsRecord lsn (take 95 (drop (at + 1) window)) × (r ≡ record_of (take 95 (drop (at + 1) window)))
 
 -- the number of a record that was found
 abbrev pub HasNumber : ℕ → Found → Type 0

@@ -1,5 +1,5 @@
 // What no proof sees: that the definitions say what was meant. Expected bytes and answers are worked out by hand.
-ghost use Rattle.std.specs.Prelude.{◌≡◌, ◌≤◌, IfSome, IfOk};
+ghost use Rattle.std.specs.Prelude.{◌≡◌, ◌≤◌, IfSome, None};
 ghost use Rattle.wal_log.specs.Examples.{first_write, first_write_bytes};
 ghost use Rattle.wal_log.specs.Records.{record_bytes, HasOld};
 ghost use Rattle.wal_log.specs.State.{IsCounted};
@@ -51,7 +51,9 @@ fn add(log: &mut Log, device: &mut MemDevice, op: LogOp, old_point: Option<Point
     }
 }
 
-fn put(key: u64) -> Option<LogOp> {
+fn put(key: u64) -> Option<LogOp>
+    ensures { IfSome result (λ op. HasOld op None) }
+{
     let note = Note::new(b"a").ok()?;
     let point = Point { x: 3, y: 4 };
     Some(LogOp::Put(Row { key, point, note }))
