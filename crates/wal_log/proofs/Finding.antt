@@ -18,7 +18,7 @@ use Rattle.wal_log.specs.Found.{HasReadSome, HasReadAll, IsFound, IsPlaceStill, 
 use Rattle.wal_log.specs.declared.records.Record.{Record}
 use Rattle.wal_log.specs.declared.reading.Found.{Found}
 use Rattle.wal_log.specs.declared.reading.Found.TheVariants.{Closed, Bad, Sound}
-use Rattle.wal_log.proofs.Agreeing.{open_records-shut, open_records-open}
+use Rattle.wal_log.specs.Laws.Agreeing.{open_records-shut, open_records-open}
 
 -- what was on the disk is there after reads, and the bytes are the same
 module _ (s t : Story) (now : Option Story) (reads : ReadsLog s now) (told : now ≡ Some t) where

@@ -15,7 +15,7 @@ use Rattle.wal_log.specs.Places.{segment_start, record_start}
 use Rattle.wal_log.specs.Segments.{Segment, Segments, segment_records, segment_at, segments_of, with_record, IsLooked}
 use Rattle.wal_log.specs.State.{IsStill, IsBeforeOrAfter, IsAtRest, newest, append_calls}
 use Rattle.wal_log.specs.declared.log.Log.{Log}
-use Rattle.wal_log.proofs.Agreeing.{segment_records-few, segment_records-end, segment_at-kept, segment_at-grown, segments-elsewhere, segments_of-at_one, segments_of-at, segments_of-set, looked-elsewhere, looked-back, segment_records-grown}
+use Rattle.wal_log.specs.Laws.Agreeing.{segment_records-few, segment_records-end, segment_at-kept, segment_at-grown, segments-elsewhere, segments_of-at_one, segments_of-at, segments_of-set, looked-elsewhere, looked-back, segment_records-grown}
 
 -- what was written lies between two places
 module _ (k : ℕ) (a : Bytes) (count : ℕ) (counts : length (segment_records k a) ≡ count) (started : a (segment_start k) ≡ 165) where

@@ -18,7 +18,7 @@ use Rattle.wal_log.specs.Headers.{header_bytes}
 use Rattle.wal_log.specs.Segments.{Segment, Segments, segment_records, segment_at, segments_of, started_segment, IsLooked}
 use Rattle.wal_log.specs.State.{IsStill, IsOneOf, IsTurning, IsAtRest, newest, following, first_header, close_calls_if, start_calls, turn_calls}
 use Rattle.wal_log.specs.declared.log.Log.{Log}
-use Rattle.wal_log.proofs.Agreeing.{segment_at-shut, segment_at-same, segments_of-same, segments_of-at_one, segments_of-set, segments-elsewhere, segment_at-started, looked-elsewhere, looked-back, segment_records-few}
+use Rattle.wal_log.specs.Laws.Agreeing.{segment_at-shut, segment_at-same, segments_of-same, segments_of-at_one, segments_of-set, segments-elsewhere, segment_at-started, looked-elsewhere, looked-back, segment_records-few}
 
 -- a segment was closed, and the others are as they were
 pub record HasClosed (k : ℕ) (s t : Story) : Type 0 where
@@ -190,10 +190,6 @@ module _ (s : Story) (k : ℕ) (below : k < 4) (still : IsStill s) where
           ⊎_elim (λ at. inl (record { from = omega arith; to = omega arith })) (λ behind. inr (inl (written i behind high))) (here_or_behind k i low)
       | inr unlike ↦ inr (inr (readable j lt i (looked-before started_story started_others j unlike i looked)))
     ]
-
--- all that is looked at is on the disk: each image of the present moment has the same segments
-pub segments-on_disk : (s : Story) (image : Bytes) → IsStill s → IsImageNow s image → segments_of image ≡ segments_of (bytes_of s)
-segments-on_disk s image still is = segments_of-same (bytes_of s) image (λ j lt. segment_at-same j (bytes_of s) image (λ i looked. is i (still j lt i looked)))
 
 -- closing and then starting
 set-again : {X : Type 0} (xs : List X) (k : ℕ) (x y : X) → set (set xs k x) k y ≡ set xs k y

@@ -15,7 +15,7 @@ use Rattle.wal_log.specs.Rules.{Numbered, HasStart, HasRecords, IsSegment, IsEnd
 use Rattle.std.proofs.lemmas.Bool.{cases_eq}
 use Rattle.wal_log.specs.Places.{segment_start}
 use Rattle.wal_log.specs.Heads.{numbered_at, open_heads, heads_above, header_of, with_head, placed_head}
-use Rattle.wal_log.proofs.Agreeing.{segment_at-open, segment_at-shut}
+use Rattle.wal_log.specs.Laws.Agreeing.{segment_at-open, segment_at-shut}
 use Rattle.wal_log.specs.Walk.{ended_of, GoesOn, StartsAfter, EndsThere, HasReadSegment, IsUnsound, IsNewest, HasEnded, HasEndedBefore, IsEndOf, IsCountedEnd}
 use Rattle.wal_log.specs.declared.heads.Head.{Head}
 use Rattle.wal_log.specs.declared.walk.Ended.{Ended}

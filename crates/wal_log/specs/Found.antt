@@ -1,4 +1,5 @@
--- What is found where a record may stand, and what a segment gives.
+-- What is found where a record may stand, and what a segment gives. No public contract needs this file but for the words of faults
+-- (`WhereBad`, `HasCauseOfFault`).
 use Rattle.std.specs.Prelude.{◌≡◌, ◌≢◌, ◌%◌, take, drop, get_or, ℕ, ◌+◌, ◌-◌, ◌<◌, ◌≤◌, ◌^◌, ◌⊎◌, List, ◌++◌, length, map, Result, IfErr}
 use Rattle.dev_model.specs.Counts.{Rose}
 use Rattle.dev_model.specs.Story.{Bytes, Story, bytes_of, part, IsSettled, IsReadFrom}

@@ -1,11 +1,13 @@
--- What is read of segments from bytes that agree in part.
+-- What is read of segments from bytes that agree in part, and from each image of a story in which all that is looked at is on the
+-- disk. No public contract needs these laws.
 use Rattle.std.proofs.Common.{◌≡◌, ◌≢◌, ◌⊎◌, inl, inr, ⊎_elim, ℕ, zero, suc, ◌+◌, ◌-◌, ◌*◌, ◌<◌, ◌≤◌, List, [], ◌∷◌, ◌++◌, length, set, get_or, refl, sym, ◌∙◌, ap, subst, arith, Option, Some, None, if◌then◌else◌, ◌==◌, true, false, Bool}
 use Rattle.std.proofs.lemmas.Bool.{cases_eq}
 use Rattle.std.proofs.lemmas.Bool.Decides.{nat_tests}
 use Rattle.std.proofs.lemmas.List.{nil_from_length, append-nil}
-use Rattle.dev_model.specs.Story.{Bytes, part}
+use Rattle.dev_model.specs.Story.{Bytes, Story, bytes_of, part, IsImageNow}
 use Rattle.dev_model.specs.Laws.Ranges.{part-same}
 use Rattle.wal_log.specs.Places.{segment_start, record_start}
+use Rattle.wal_log.specs.State.{IsStill}
 use Rattle.wal_log.specs.Segments.{Segment, Segments, open_records, segment_records, segment_header, segment_at, segments_of, with_record, IsLooked}
 
 pub open_records-shut : (places at : ℕ) (a : Bytes) → a at ≢ 165 → open_records places at a ≡ []
@@ -210,3 +212,7 @@ unfolding segment_header segment_records
 segment_at-started k a header is there shut =
     let none : segment_records k a ≡ [] = open_records-shut 2049 (segment_start k + 64) a shut in
     (segment_at-open k a is ∙ (λ j. Some (record { header = there j; records = none j })), none)
+
+-- all that is looked at is on the disk: each image of the present moment has the same segments
+pub segments-on_disk : (s : Story) (image : Bytes) → IsStill s → IsImageNow s image → segments_of image ≡ segments_of (bytes_of s)
+segments-on_disk s image still is = segments_of-same (bytes_of s) image (λ j lt. segment_at-same j (bytes_of s) image (λ i looked. is i (still j lt i looked)))
