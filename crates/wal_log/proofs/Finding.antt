@@ -1,9 +1,9 @@
 -- What is found at the place of a record, and what a walk over these places has read.
-use Rattle.std.proofs.Common.{◌≡◌, ◌≢◌, inl, inr, ⊎_elim, ℕ, zero, suc, ◌+◌, ◌-◌, ◌*◌, ◌<◌, ◌≤◌, ◌^◌, ◌%◌, List, [], ◌∷◌, ◌++◌, length, get_or, take, drop, map, refl, sym, ◌∙◌, ap, subst, arith, Option, Some, ◌⊎◌, length-append, append_assoc}
+use Rattle.std.proofs.Common.{◌≡◌, ◌≢◌, inl, inr, ⊎_elim, ℕ, suc, ◌+◌, ◌-◌, ◌*◌, ◌<◌, ◌≤◌, ◌^◌, ◌%◌, List, [], ◌∷◌, ◌++◌, length, get_or, take, drop, map, refl, sym, ◌∙◌, ap, subst, arith, Option, Some, ◌⊎◌, length-append, append_assoc}
 use Rattle.std.proofs.lemmas.List.{append-nil, get_or_append_left, get_or_at, length_push, map-append, length-drop, length-take-le}
 use Rattle.std.proofs.Math.Seq.{get_or-take, get_or-drop}
 use Rattle.std.proofs.lemmas.Option.{same_Some}
-use Rattle.dev_model.specs.Story.{Bytes, Story, after, bytes_of, part, IsSettled, IsReadable, IsReadFrom, WhereTold}
+use Rattle.dev_model.specs.Story.{Bytes, Story, after, bytes_of, part, IsSettled, IsReadFrom, WhereTold}
 use Rattle.wal_log.specs.Places.{ReadsLog}
 use Rattle.dev_model.specs.Laws.Ranges.{part-list}
 use Rattle.dev_model.specs.Laws.Images.{IsReadable-settled}
@@ -68,8 +68,8 @@ module _ (s : Story) (start at place : ℕ) (window : List ℕ) (is : start + at
       each n lt =
           let there : start + (at + 1 + n) ≡ place + 1 + n = omega (arith, is) in
           sym (get_or-take 95 (drop (at + 1) window) n 0 lt ∙ get_or-drop (at + 1) window n 0
-            ∙ read (at + 1 + n) (omega (arith, width, within, lt)) (IsReadable-settled s.past (start + (at + 1 + n)) (subst (λ (m : ℕ). IsSettled s.past m) (sym there) (still.body (sym place-gate ∙ is_open) (place + 1 + n) (omega arith) (omega (arith, lt)))))
-            ∙ ap (bytes_of s) there)
+          ∙ read (at + 1 + n) (omega (arith, width, within, lt)) (IsReadable-settled s.past (start + (at + 1 + n)) (subst (λ (m : ℕ). IsSettled s.past m) (sym there) (still.body (sym place-gate ∙ is_open) (place + 1 + n) (omega arith) (omega (arith, lt)))))
+          ∙ ap (bytes_of s) there)
 
   pub found-in : (lsn : ℕ) (f : Found) → IsFoundIn at lsn window f → IsFound place lsn (bytes_of s) f
   found-in lsn Closed shut = λ is_open. shut (place-gate ∙ is_open)
@@ -104,7 +104,7 @@ module _ (first place k : ℕ) (bytes : Bytes) (before now : List Record) (few :
       let next : record_start k place + 96 ≡ record_start k (place + 1) = omega arith in
       read.rest ∙ ap (λ (l : List (List ℕ)). read.front ++ l)
       (ap (λ (n : ℕ). open_records n (record_start k place) bytes) places ∙ open_records-open (2049 - (place + 1)) (record_start k place) bytes is
-        ∙ ap (λ (n : ℕ). here ∷ open_records (2049 - (place + 1)) n bytes) next)
+      ∙ ap (λ (n : ℕ). here ∷ open_records (2049 - (place + 1)) n bytes) next)
 
   -- a closed gate ends the walk
   pub read-all : bytes (record_start k place) ≢ 165 → HasReadAll first place (segment_records k bytes) before now
@@ -130,12 +130,12 @@ module _ (first place k : ℕ) (bytes : Bytes) (before now : List Record) (few :
     counts = length_push read.front here ∙ ap (λ (n : ℕ). n + 1) read.counts;
     rest = goes_on is ∙ sym (append_assoc read.front (here ∷ []) (open_records (2049 - (place + 1)) (record_start k (place + 1)) bytes));
     lawful = λ i lt. ⊎_elim
-      (λ old. subst (IsRecord (first + i)) (sym (get_or_append_left read.front (here ∷ []) [] i old)) (read.lawful i old))
-      (λ new. subst (λ (n : ℕ). IsRecord (first + n) (get_or (read.front ++ here ∷ []) n [])) (sym new)
+        (λ old. subst (IsRecord (first + i)) (sym (get_or_append_left read.front (here ∷ []) [] i old)) (read.lawful i old))
+        (λ new. subst (λ (n : ℕ). IsRecord (first + n) (get_or (read.front ++ here ∷ []) n [])) (sym new)
         (subst (IsRecord (first + place)) (sym (get_or_at read.front here [] [] place read.counts)) lawful))
-      (sides i (omega (arith, lt, length_push read.front here)));
+        (sides i (omega (arith, lt, length_push read.front here)));
     added = pushed ∙ ap (λ (l : List Record). l ++ r ∷ []) read.added ∙ append_assoc before (map record_of read.front) (r ∷ [])
-      ∙ ap (λ (x : Record). before ++ (map record_of read.front ++ x ∷ [])) same ∙ ap (λ (l : List Record). before ++ l) (sym (map-append record_of read.front (here ∷ [])));
+        ∙ ap (λ (x : Record). before ++ (map record_of read.front ++ x ∷ [])) same ∙ ap (λ (l : List Record). before ++ l) (sym (map-append record_of read.front (here ∷ [])));
   }
     where
       sides : (i : ℕ) → i < length read.front + 1 → (i < length read.front) ⊎ (i ≡ place)
@@ -151,10 +151,10 @@ place-still first place k s before now few read still =
     record {
       gate = still.still (record_start k place) (inr (still.started, omega arith, omega (arith, some)));
       body = λ is i low high.
-        let all : segment_records k (bytes_of s) ≡ read.front ++ here first place k (bytes_of s) before now few read ∷ open_records (2049 - (place + 1)) (record_start k (place + 1)) (bytes_of s) = goes_on first place k (bytes_of s) before now few read is in
-        let more : place + 1 ≤ length (segment_records k (bytes_of s)) =
-        omega (arith, ap length all, length-append read.front (here first place k (bytes_of s) before now few read ∷ open_records (2049 - (place + 1)) (record_start k (place + 1)) (bytes_of s)), read.counts) in
-        still.still i (inr (still.started, omega (arith, low), omega (arith, high, more)));
+          let all : segment_records k (bytes_of s) ≡ read.front ++ here first place k (bytes_of s) before now few read ∷ open_records (2049 - (place + 1)) (record_start k (place + 1)) (bytes_of s) = goes_on first place k (bytes_of s) before now few read is in
+          let more : place + 1 ≤ length (segment_records k (bytes_of s)) =
+          omega (arith, ap length all, length-append read.front (here first place k (bytes_of s) before now few read ∷ open_records (2049 - (place + 1)) (record_start k (place + 1)) (bytes_of s)), read.counts) in
+          still.still i (inr (still.started, omega (arith, low), omega (arith, high, more)));
     }
 
 -- nothing is read yet

@@ -1,21 +1,21 @@
 -- What a crash leaves of the log during each call of an append, and after the last.
-use Rattle.std.proofs.Common.{◌≡◌, ◌≢◌, ◌⊎◌, inl, inr, ⊎_elim, ℕ, zero, suc, ◌+◌, ◌*◌, ◌-◌, ◌<◌, ◌≤◌, List, [], ◌∷◌, ◌++◌, Option, Some, None, Result, Ok, length, get_or, set, refl, sym, ◌∙◌, ap, subst, arith, length-append, Bool, false, ◌==◌, ◌%◌}
+use Rattle.std.proofs.Common.{◌≡◌, ◌≢◌, ◌⊎◌, inl, inr, ⊎_elim, ℕ, ◌+◌, ◌-◌, ◌<◌, ◌≤◌, List, [], ◌∷◌, ◌++◌, Option, Some, None, Result, length, get_or, set, refl, sym, ◌∙◌, ap, subst, arith, length-append, Bool, false, ◌==◌, ◌%◌}
 use Rattle.std.proofs.lemmas.Bool.{cases_eq}
 use Rattle.std.proofs.lemmas.List.{get_or_append_left, get_or_at, length_push}
-use Rattle.dev_model.specs.Story.{Bytes, Write, Sync, Calls, Story, all_noted, Did, WhereTold, after, bytes_of, part, patched, IsInside, IsOutside, IsSettled, IsReadable, IsImageNow, IsImageDuring}
+use Rattle.dev_model.specs.Story.{Bytes, Write, Sync, Calls, Story, Did, after, bytes_of, part, patched, IsInside, IsOutside, IsSettled, IsReadable, IsImageDuring}
 use Rattle.dev_model.specs.Moments.{LeavesOnly, WritesWithin, AreSpared}
 use Rattle.dev_model.specs.Laws.Frame.{WritesWithin-did}
 use Rattle.dev_model.specs.Laws.Ranges.{patched-outside, patched-inside, part-list}
 use Rattle.dev_model.specs.Laws.Images.{IsReadable-settled}
 use Rattle.dev_model.specs.Laws.Plans.{LeavesOnly-did}
-use Rattle.wal_log.proofs.Planned.{Leaves, leaves-one, leaves-more, told-before, told-end}
+use Rattle.wal_log.proofs.Planned.{Leaves, leaves-one, leaves-more}
 use Rattle.wal_log.specs.Records.{record_bytes}
 use Rattle.wal_log.specs.declared.records.Record.{Record}
 use Rattle.wal_log.specs.Places.{segment_start, record_start}
-use Rattle.wal_log.specs.Segments.{Segment, Segments, segment_records, segment_at, segments_of, with_record, IsLooked}
+use Rattle.wal_log.specs.Segments.{Segments, segment_records, segment_at, segments_of, with_record, IsLooked}
 use Rattle.wal_log.specs.State.{IsStill, IsBeforeOrAfter, IsAtRest, newest, append_calls}
 use Rattle.wal_log.specs.declared.log.Log.{Log}
-use Rattle.wal_log.specs.Laws.Agreeing.{segment_records-few, segment_records-end, segment_at-kept, segment_at-grown, segments-elsewhere, segments_of-at_one, segments_of-at, segments_of-set, looked-elsewhere, looked-back, segment_records-grown}
+use Rattle.wal_log.specs.Laws.Agreeing.{segment_records-end, segment_at-kept, segment_at-grown, segments-elsewhere, segments_of-at_one, segments_of-at, segments_of-set, looked-elsewhere, looked-back, segment_records-grown}
 
 -- what was written lies between two places
 module _ (k : ℕ) (a : Bytes) (count : ℕ) (counts : length (segment_records k a) ≡ count) (started : a (segment_start k) ≡ 165) where
@@ -66,16 +66,16 @@ module _ (s : Story) (k count : ℕ) (below : k < 4) (still : IsStill s) (starte
   body_is : (image : Bytes) → ((i : ℕ) → gate < i → i < gate + 97 → image i ≡ patched (gate + 1) new (bytes_of s) i) → (part (gate + 1) 95 image ≡ body) × (image (gate + 96) ≢ 165)
   body_is image same = (
     part-list (gate + 1) 95 image body width
-    (λ n lt.
-      let at_n : gate + 1 + n - (gate + 1) ≡ n = omega arith in
-      same (gate + 1 + n) (omega arith) (omega arith) ∙ patched-inside (gate + 1) new (bytes_of s) (gate + 1 + n) (record { from = omega arith; to = omega (arith, length_new) })
-      ∙ (λ j. get_or (new_is j) (at_n j) 0) ∙ get_or_append_left body (0 ∷ []) 0 n (omega (arith, width))),
+        (λ n lt.
+        let at_n : gate + 1 + n - (gate + 1) ≡ n = omega arith in
+        same (gate + 1 + n) (omega arith) (omega arith) ∙ patched-inside (gate + 1) new (bytes_of s) (gate + 1 + n) (record { from = omega arith; to = omega (arith, length_new) })
+        ∙ (λ j. get_or (new_is j) (at_n j) 0) ∙ get_or_append_left body (0 ∷ []) 0 n (omega (arith, width))),
     λ is_open.
-      let at_95 : gate + 96 - (gate + 1) ≡ 95 = omega arith in
-      let zero_is : image (gate + 96) ≡ 0 =
-      same (gate + 96) (omega arith) (omega arith) ∙ patched-inside (gate + 1) new (bytes_of s) (gate + 96) (record { from = omega arith; to = omega (arith, length_new) })
-      ∙ (λ j. get_or (new_is j) (at_95 j) 0) ∙ get_or_at body 0 [] 0 95 width in
-      omega (arith, zero_is, is_open),
+        let at_95 : gate + 96 - (gate + 1) ≡ 95 = omega arith in
+        let zero_is : image (gate + 96) ≡ 0 =
+        same (gate + 96) (omega arith) (omega arith) ∙ patched-inside (gate + 1) new (bytes_of s) (gate + 96) (record { from = omega arith; to = omega (arith, length_new) })
+        ∙ (λ j. get_or (new_is j) (at_95 j) 0) ∙ get_or_at body 0 [] 0 95 width in
+        omega (arith, zero_is, is_open),
   )
 
   -- whatever the gate is
@@ -116,7 +116,7 @@ module _ (s : Story) (k count : ℕ) (below : k < 4) (still : IsStill s) (starte
   staging image is =
       let same : (i : ℕ) → segment_start k ≤ i → i ≤ gate → image i ≡ bytes_of s i = λ i low high. is i (inl (omega arith)) (settled i low high) in
       inl (old_stand image (λ i low high. same i low (omega arith)) (λ is_open. shut (sym (same gate (omega arith) (omega arith)) ∙ is_open))
-        (others image (λ i away j lt looked. is i (far_from_new i away) (still j lt i looked))))
+      (others image (λ i away j lt looked. is i (far_from_new i away) (still j lt i looked))))
 
   abbrev staged : Story
   staged = after s (Write (gate + 1) new ∷ Sync ∷ [])
@@ -185,7 +185,6 @@ module _ (s : Story) (k count : ℕ) (below : k < 4) (still : IsStill s) (starte
       sides : (i n : ℕ) → (i < n) ⊎ ((i ≡ n) ⊎ (n < i))
       sides i n = grind arith
 
-
   -- at each moment of the append
   pub grows : Leaves s steps (λ image. IsBeforeOrAfter k body old (segments_of image))
   grows =
@@ -236,6 +235,6 @@ module _ (s : Story) (log : Log) (rest : IsAtRest log s) (below : newest log < 4
         started = subst (λ (k : ℕ). bytes_of end (segment_start k) ≡ 165) same (ends_started s (newest log) log.records below rest.still rest.started rest.counts room (record_bytes r) (record_bytes r ++ 0 ∷ []) width refl);
         counts = subst (λ (k : ℕ). length (segment_records k (bytes_of end)) ≡ next.records) same (ends_counts s (newest log) log.records below rest.still rest.started rest.counts room (record_bytes r) (record_bytes r ++ 0 ∷ []) width refl ∙ sym records);
         heads = λ j lt. ap (λ (l : List Bool). get_or l j false) heads ∙ rest.heads j lt
-          ∙ ap (λ (n : ℕ). n == 165) (sym (ends_heads s (newest log) log.records below rest.still rest.started rest.counts room (record_bytes r) (record_bytes r ++ 0 ∷ []) width refl j lt));
+            ∙ ap (λ (n : ℕ). n == 165) (sym (ends_heads s (newest log) log.records below rest.still rest.started rest.counts room (record_bytes r) (record_bytes r ++ 0 ∷ []) width refl j lt));
         still = ends_still s (newest log) log.records below rest.still rest.started rest.counts room (record_bytes r) (record_bytes r ++ 0 ∷ []) width refl;
       })

@@ -1,11 +1,10 @@
 -- An append keeps the rules: the segments in order, with one record more in the newest.
-use Rattle.std.proofs.Common.{◌≡◌, ◌≢◌, ◌⊎◌, inl, inr, ⊎_elim, ℕ, zero, suc, ◌+◌, ◌-◌, ◌<◌, ◌≤◌, ◌%◌, List, [], ◌∷◌, ◌++◌, length, get_or, set, map, Option, Some, None, refl, sym, ◌∙◌, ap, subst, arith, nat_le, if◌then◌else◌, Bool, true, false, append_assoc, ◌==◌}
-use Rattle.std.proofs.lemmas.Bool.{cases_eq}
+use Rattle.std.proofs.Common.{◌≡◌, ◌≢◌, ◌⊎◌, inl, inr, ⊎_elim, ℕ, zero, suc, ◌+◌, ◌<◌, ◌≤◌, ◌%◌, List, [], ◌∷◌, ◌++◌, length, get_or, set, map, Option, Some, None, refl, sym, ◌∙◌, ap, subst, arith, nat_le, if◌then◌else◌, Bool, true, false, append_assoc, ◌==◌}
 use Rattle.std.proofs.lemmas.Bool.Decides.{nat_tests}
 use Rattle.std.proofs.lemmas.List.{append-nil, get_or_append_left, get_or_at, length_push, map-append}
 use Rattle.wal_log.specs.Records.{IsRecord, record_of}
-use Rattle.wal_log.specs.Segments.{Segment, Segments, with_record}
-use Rattle.wal_log.specs.Rules.{Numbered, generation_of, first_lsn_of, next_lsn_of, placed, ordered, in_order, AreRecords, HasRecords, HasStart, IsSegment, AreEnds, IsSound, AreSound, IsEnd, Opens, OpensFrom, records_in, records_of}
+use Rattle.wal_log.specs.Segments.{Segments, with_record}
+use Rattle.wal_log.specs.Rules.{Numbered, generation_of, first_lsn_of, placed, ordered, in_order, AreRecords, HasStart, AreEnds, IsSound, AreSound, Opens, OpensFrom, records_in, records_of}
 use Rattle.wal_log.specs.State.{HasLast, IsLogOf, OpensAs, HasRecordsOr, IsBeforeOrAfter, newest}
 use Rattle.wal_log.specs.declared.log.Log.{Log}
 use Rattle.wal_log.specs.declared.records.Record.{Record}
@@ -201,9 +200,9 @@ module _ (log : Log) (segments : Segments) (four : length segments ≤ 4) (bytes
       record {
         sound = subst (AreSound [] None) (sym order) all.sound;
         newest_is = subst (HasLast next.generation next.next_lsn next.records) (sym order)
-          (subst (λ (g : ℕ). HasLast g next.next_lsn next.records (map (grown (newest log) bytes) (in_order segments))) (sym generation)
+            (subst (λ (g : ℕ). HasLast g next.next_lsn next.records (map (grown (newest log) bytes) (in_order segments))) (sym generation)
             (subst (λ (l : ℕ). HasLast log.generation l next.records (map (grown (newest log) bytes) (in_order segments))) (sym lsn)
-              (subst (λ (n : ℕ). HasLast log.generation (log.next_lsn + 1) n (map (grown (newest log) bytes) (in_order segments))) (sym records) all.last)));
+            (subst (λ (n : ℕ). HasLast log.generation (log.next_lsn + 1) n (map (grown (newest log) bytes) (in_order segments))) (sym records) all.last)));
       }
 
   pub opens-append : (ends : List ℕ) (r : Record) → record_of bytes ≡ r → Opens ends segments → OpensAs ends (records_of segments ++ r ∷ []) after_it

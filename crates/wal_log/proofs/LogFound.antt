@@ -42,6 +42,6 @@ pub log_of-found : (ends : List ℕ) (b : Bytes) (at_end : Ended) (log : Log) �
 log_of-found ends b at_end log opens found generation next records = record {
   sound = sound-less ends None (in_order (segments_of b)) (sound-from ends (in_order (segments_of b)) opens);
   newest_is = subst (λ (g : ℕ). HasLast g log.next_lsn log.records (in_order (segments_of b))) (sym generation)
-    (subst (λ (l : ℕ). HasLast at_end.generation l log.records (in_order (segments_of b))) (sym next)
+      (subst (λ (l : ℕ). HasLast at_end.generation l log.records (in_order (segments_of b))) (sym next)
       (subst (λ (n : ℕ). HasLast at_end.generation (at_end.first_lsn + at_end.records) n (in_order (segments_of b))) (sym records) found.last));
 }

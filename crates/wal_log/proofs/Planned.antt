@@ -1,7 +1,7 @@
 -- What planned calls leave: writes, each with its sync.
-use Rattle.std.proofs.Common.{◌≡◌, inl, inr, ℕ, List, [], ◌∷◌, ◌++◌, Option, Some, None, Result, Ok, Err, Bool, true, false, refl, sym, ◌∙◌, ap, subst}
+use Rattle.std.proofs.Common.{◌≡◌, inr, ℕ, List, [], ◌∷◌, ◌++◌, Option, Some, None, Ok, Err, refl, sym, ◌∙◌, subst}
 use Rattle.std.proofs.lemmas.Option.{same_Some}
-use Rattle.dev_model.specs.Story.{Bytes, Call, Write, Sync, Calls, Story, after, all_noted, bytes_of, IsImageDuring, IsImageNow, Did, HasStoppedIn}
+use Rattle.dev_model.specs.Story.{Bytes, Write, Sync, Calls, Story, after, all_noted, bytes_of, IsImageDuring, IsImageNow, HasStoppedIn}
 use Rattle.dev_model.specs.Laws.Ranges.{patched-outside}
 use Rattle.dev_model.specs.Laws.Images.{IsReadable-settled}
 use Rattle.dev_model.specs.Laws.Plans.{all_noted-told, no_story, Did-untold, Did-cut, Did-then}
@@ -13,9 +13,10 @@ Leaves s calls P = During s calls P × ((image : Bytes) → IsImageNow (after s 
 
 -- a write and its sync
 pub leaves-one : (s : Story) (at : ℕ) (new : List ℕ) (P : Bytes → Type 0) → ((image : Bytes) → IsImageDuring s (Write at new) image → P image) → Leaves s (Write at new ∷ Sync ∷ []) P
-leaves-one s at new P first =
-    ((first, ((λ image is. first image (λ i spared settled. is i tt (spared, settled) ∙ patched-outside at new (bytes_of s) i spared)), tt)),
-      λ image is. first image (λ i spared settled. is i (inr (IsReadable-settled s.past i settled)) ∙ patched-outside at new (bytes_of s) i spared))
+leaves-one s at new P first = (
+  (first, ((λ image is. first image (λ i spared settled. is i tt (spared, settled) ∙ patched-outside at new (bytes_of s) i spared)), tt)),
+  λ image is. first image (λ i spared settled. is i (inr (IsReadable-settled s.past i settled)) ∙ patched-outside at new (bytes_of s) i spared),
+)
 
 -- and then more
 pub leaves-more : (s : Story) (at : ℕ) (new : List ℕ) (calls : Calls) (P : Bytes → Type 0) → ((image : Bytes) → IsImageDuring s (Write at new) image → P image)

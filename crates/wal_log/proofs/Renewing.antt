@@ -1,13 +1,13 @@
 -- A change of segments keeps the rules: the one in turn leaves the order at its front, and comes back at its end.
-use Rattle.std.proofs.Common.{◌≡◌, ◌≢◌, ◌⊎◌, inl, inr, ⊎_elim, ℕ, zero, suc, ◌+◌, ◌-◌, ◌<◌, ◌≤◌, ◌^◌, ◌%◌, List, [], ◌∷◌, ◌++◌, length, get_or, set, map, drop, replicate, Option, Some, None, refl, sym, ◌∙◌, ap, subst, arith, nat_le, if◌then◌else◌, Bool, true, false, append_assoc, All}
+use Rattle.std.proofs.Common.{◌≡◌, ◌≢◌, ◌⊎◌, inl, inr, ⊎_elim, ℕ, zero, suc, ◌+◌, ◌<◌, ◌≤◌, ◌^◌, ◌%◌, List, [], ◌∷◌, ◌++◌, length, get_or, set, map, drop, replicate, Option, Some, None, refl, sym, ◌∙◌, ap, subst, arith, nat_le, if◌then◌else◌, Bool, true, false, All}
 use Rattle.std.proofs.lemmas.Bool.Decides.{nat_tests}
 use Rattle.std.proofs.lemmas.Option.{same_Some}
 use Rattle.std.proofs.lemmas.Nat.{from_be_bytes-to_be_bytes_8}
 use Rattle.wal_log.specs.Headers.{generation_in, first_lsn_in, header_bytes}
 use Rattle.wal_log.specs.Records.{record_of}
 use Rattle.wal_log.specs.Segments.{Segment, Segments, started_segment}
-use Rattle.wal_log.specs.Rules.{Numbered, generation_of, first_lsn_of, next_lsn_of, placed, ordered, in_order, AreRecords, HasRecords, HasStart, Follows, IsSegment, AreEnds, IsSound, AreSound, IsEnd, Opens, OpensFrom, records_in, records_of}
-use Rattle.wal_log.specs.State.{HasLast, IsLogOf, OpensAs, IsCounted, IsTurning, HasSameRecords, following, first_header}
+use Rattle.wal_log.specs.Rules.{Numbered, generation_of, first_lsn_of, next_lsn_of, placed, ordered, in_order, HasStart, IsSound, AreSound, Opens, OpensFrom, records_in, records_of}
+use Rattle.wal_log.specs.State.{HasLast, IsLogOf, IsCounted, IsTurning, HasSameRecords, following, first_header}
 use Rattle.wal_log.specs.declared.log.Log.{Log}
 use Rattle.wal_log.specs.declared.records.Record.{Record}
 use Rattle.wal_log.proofs.Keeping.{length-ordered, generations, opens-kept, sound-from, some-last}
@@ -234,7 +234,7 @@ module _ (log : Log) (segments : Segments) (four : length segments ≡ 4) (below
 
   all-below : AllOf (λ m. generation_of m < generation_in new.header) left
   all-below = without-all (λ m. generation_of m < generation_in new.header) k k 0 segments (omega arith)
-    (all-weaker (IsAmong log.generation) (λ n. n.number ≢ k → generation_of n < generation_in new.header) (in_order segments) (λ n is unlike. omega (arith, is.0, is_next)) are)
+      (all-weaker (IsAmong log.generation) (λ n. n.number ≢ k → generation_of n < generation_in new.header) (in_order segments) (λ n is unlike. omega (arith, is.0, is_next)) are)
 
   -- what is left when the next segment is closed
   pub closed-left : (ends : List ℕ) → AreSound ends None (in_order segments) → AreSound ends None left × HasLast log.generation log.next_lsn log.records left
@@ -249,9 +249,9 @@ module _ (log : Log) (segments : Segments) (four : length segments ≡ 4) (below
           let old : generation_in x.header + 3 ≡ log.generation = oldest (generation_in x.header) log.generation x_is.0 x_is.1 x_is.2 in
           let order : in_order segments ≡ record { number = k; segment = x } ∷ left =
           oldest-first k k 0 segments x (omega arith) is
-            (without-all (λ m. generation_in x.header < generation_of m) k k 0 segments (omega arith)
-              (all-weaker (IsAmong log.generation) (λ n. n.number ≢ k → generation_in x.header < generation_of n) (in_order segments)
-                (λ n it unlike. younger (generation_in x.header) (generation_of n) log.generation n.number old it.0 it.1 it.2 unlike) are)) in
+          (without-all (λ m. generation_in x.header < generation_of m) k k 0 segments (omega arith)
+          (all-weaker (IsAmong log.generation) (λ n. n.number ≢ k → generation_in x.header < generation_of n) (in_order segments)
+          (λ n it unlike. younger (generation_in x.header) (generation_of n) log.generation n.number old it.0 it.1 it.2 unlike) are)) in
           front-leaves ends (record { number = k; segment = x }) left log.generation log.next_lsn log.records old (subst (AreSound ends None) order sound) (subst (HasLast log.generation log.next_lsn log.records) order of.newest_is)
         where
           oldest : (g last : ℕ) → g ≤ last → last ≤ g + 3 → g % 4 ≡ (last + 1) % 4 → g + 3 ≡ last
@@ -273,11 +273,11 @@ module _ (log : Log) (segments : Segments) (four : length segments ≡ 4) (below
       push-last [] k log.generation log.next_lsn log.records new refl is_next is_first (header-reserved (log.generation + 1) log.next_lsn) refl (omega (arith, counted.generation, some)) (λ i d lt. absurd (omega (arith, lt))) left closed.1 in
       record {
         sound = subst (AreSound [] None) (sym order)
-          (push-sound [] k log.generation log.next_lsn log.records new refl is_next is_first (header-reserved (log.generation + 1) log.next_lsn) refl (omega (arith, counted.generation, some)) (λ i d lt. absurd (omega (arith, lt))) None left closed.0 closed.1);
+            (push-sound [] k log.generation log.next_lsn log.records new refl is_next is_first (header-reserved (log.generation + 1) log.next_lsn) refl (omega (arith, counted.generation, some)) (λ i d lt. absurd (omega (arith, lt))) None left closed.0 closed.1);
         newest_is = subst (HasLast next.generation next.next_lsn next.records) (sym order)
-          (subst (λ (g : ℕ). HasLast g next.next_lsn next.records (left ++ record { number = k; segment = new } ∷ [])) (sym generation)
+            (subst (λ (g : ℕ). HasLast g next.next_lsn next.records (left ++ record { number = k; segment = new } ∷ [])) (sym generation)
             (subst (λ (l : ℕ). HasLast (log.generation + 1) l next.records (left ++ record { number = k; segment = new } ∷ [])) (sym lsn)
-              (subst (λ (n : ℕ). HasLast (log.generation + 1) log.next_lsn n (left ++ record { number = k; segment = new } ∷ [])) (sym records) last)));
+            (subst (λ (n : ℕ). HasLast (log.generation + 1) log.next_lsn n (left ++ record { number = k; segment = new } ∷ [])) (sym records) last)));
       }
 
   -- each image of a change reads the same records, but for those of the segment that is used again
@@ -301,5 +301,5 @@ module _ (log : Log) (segments : Segments) (four : length segments ≡ 4) (below
           inr (record {
             opens = subst (Opens ends) (sym is_new) (subst (OpensFrom ends) (sym order) (opens-kept ends (left ++ record { number = k; segment = new } ∷ []) (some-last (log.generation + 1) log.next_lsn 0 (left ++ record { number = k; segment = new } ∷ []) last) sound));
             records_are = ap records_of is_new ∙ ap records_in order
-              ∙ push-records ends k log.generation log.next_lsn log.records new refl is_next is_first (header-reserved (log.generation + 1) log.next_lsn) refl (omega (arith, counted.generation, some)) there left;
+                ∙ push-records ends k log.generation log.next_lsn log.records new refl is_next is_first (header-reserved (log.generation + 1) log.next_lsn) refl (omega (arith, counted.generation, some)) there left;
           })

@@ -1,11 +1,10 @@
 -- What a crash leaves of the log while a segment is closed and while one is started.
-use Rattle.std.proofs.Common.{◌≡◌, ◌≢◌, ◌⊎◌, inl, inr, ⊎_elim, ℕ, zero, suc, ◌+◌, ◌*◌, ◌-◌, ◌<◌, ◌≤◌, List, [], ◌∷◌, ◌++◌, Option, Some, None, Result, if◌then◌else◌, length, get_or, set, refl, sym, ◌∙◌, ap, subst, arith, length-append, Bool, true, false, ◌==◌, ◌%◌}
+use Rattle.std.proofs.Common.{◌≡◌, ◌≢◌, ◌⊎◌, inl, inr, ⊎_elim, ℕ, zero, suc, ◌+◌, ◌-◌, ◌<◌, ◌≤◌, List, [], ◌∷◌, ◌++◌, Option, Some, None, Result, length, get_or, set, refl, sym, ◌∙◌, ap, subst, arith, length-append, Bool, true, false, ◌==◌, ◌%◌}
 use Rattle.std.proofs.lemmas.Bool.{cases_eq}
 use Rattle.std.proofs.lemmas.List.{get_or_append_left, get_or_at, get_or-set_other}
 use Rattle.std.proofs.lemmas.Bool.Decides.{nat_tests}
 use Rattle.std.proofs.lemmas.Grind.{get_or-set_at}
-use Rattle.std.proofs.lemmas.Nat.{mod_below}
-use Rattle.dev_model.specs.Story.{Bytes, Write, Sync, Calls, Story, Did, after, bytes_of, part, patched, IsInside, IsOutside, IsSettled, IsReadable, IsImageDuring, IsImageNow}
+use Rattle.dev_model.specs.Story.{Bytes, Write, Sync, Calls, Story, Did, after, bytes_of, part, patched, IsInside, IsOutside, IsReadable, IsImageDuring}
 use Rattle.dev_model.specs.Moments.{LeavesOnly, WritesWithin, AreSpared}
 use Rattle.dev_model.specs.Laws.Frame.{WritesWithin-did}
 use Rattle.dev_model.specs.Laws.Ranges.{patched-outside, patched-inside, part-list}
@@ -13,12 +12,12 @@ use Rattle.dev_model.specs.Laws.Images.{IsReadable-settled}
 use Rattle.dev_model.specs.Laws.Plans.{LeavesOnly-did}
 use Rattle.wal_log.proofs.Planned.{Leaves, leaves-one, leaves-more}
 use Rattle.wal_log.proofs.Spelled.{length-header_bytes}
-use Rattle.wal_log.specs.Places.{segment_start, record_start}
+use Rattle.wal_log.specs.Places.{segment_start}
 use Rattle.wal_log.specs.Headers.{header_bytes}
-use Rattle.wal_log.specs.Segments.{Segment, Segments, segment_records, segment_at, segments_of, started_segment, IsLooked}
+use Rattle.wal_log.specs.Segments.{Segments, segment_records, segment_at, segments_of, started_segment, IsLooked}
 use Rattle.wal_log.specs.State.{IsStill, IsOneOf, IsTurning, IsAtRest, newest, following, first_header, close_calls_if, start_calls, turn_calls}
 use Rattle.wal_log.specs.declared.log.Log.{Log}
-use Rattle.wal_log.specs.Laws.Agreeing.{segment_at-shut, segment_at-same, segments_of-same, segments_of-at_one, segments_of-set, segments-elsewhere, segment_at-started, looked-elsewhere, looked-back, segment_records-few}
+use Rattle.wal_log.specs.Laws.Agreeing.{segment_at-shut, segment_at-same, segments_of-at_one, segments_of-set, segments-elsewhere, segment_at-started, looked-elsewhere, looked-back}
 
 -- a segment was closed, and the others are as they were
 pub record HasClosed (k : ℕ) (s t : Story) : Type 0 where
@@ -69,9 +68,9 @@ module _ (s : Story) (k : ℕ) (below : k < 4) (still : IsStill s) where
         elim (cases_eq (image start) 165) [
           | inl is_open ↦ inl (segments_of-at_one k (bytes_of s) image
               (segment_at-same k (bytes_of s) image (λ i looked. ⊎_elim
-                (λ here. ap image here ∙ is_open ∙ sym open_before ∙ ap (bytes_of s) (sym here))
-                (λ in_it. ⊎_elim (λ here. ap image here ∙ is_open ∙ sym open_before ∙ ap (bytes_of s) (sym here)) (λ behind. is i (inr (omega arith)) (still k below i looked)) (here_or_behind k i in_it.1))
-                looked))
+              (λ here. ap image here ∙ is_open ∙ sym open_before ∙ ap (bytes_of s) (sym here))
+              (λ in_it. ⊎_elim (λ here. ap image here ∙ is_open ∙ sym open_before ∙ ap (bytes_of s) (sym here)) (λ behind. is i (inr (omega arith)) (still k below i looked)) (here_or_behind k i in_it.1))
+              looked))
               rest)
           | inr shut ↦ inr (segments_of-set k (bytes_of s) image None below (segment_at-shut k image shut) rest)
         ]
@@ -91,7 +90,7 @@ module _ (s : Story) (k : ℕ) (below : k < 4) (still : IsStill s) where
   pub closed : HasClosed k s closed_story
   closed = record {
     segments = segments_of-set k (bytes_of s) (bytes_of closed_story) None below (segment_at-shut k (bytes_of closed_story) closed_gate)
-      (segments-elsewhere k (bytes_of s) (bytes_of closed_story) (λ i away j lt looked. closed_others i away));
+        (segments-elsewhere k (bytes_of s) (bytes_of closed_story) (λ i away j lt looked. closed_others i away));
     closed = closed_gate;
     others = closed_others;
   }
@@ -124,7 +123,7 @@ module _ (s : Story) (k : ℕ) (below : k < 4) (still : IsStill s) where
     pub staging : (image : Bytes) → IsImageDuring s (Write (start + 1) new) image → IsOneOf old started_one (segments_of image)
     staging image is =
         inl (old_stand image (λ is_open. shut_before (sym (is start (inl (omega arith)) (still k below start (inl refl))) ∙ is_open))
-          (segments-elsewhere k (bytes_of s) image (λ i away j lt looked. is i (far_from_new i away) (still j lt i looked))))
+        (segments-elsewhere k (bytes_of s) image (λ i away j lt looked. is i (far_from_new i away) (still j lt i looked))))
 
     abbrev staged : Story
     staged = after s (Write (start + 1) new ∷ Sync ∷ [])
@@ -132,16 +131,16 @@ module _ (s : Story) (k : ℕ) (below : k < 4) (still : IsStill s) where
     there : (image : Bytes) → ((i : ℕ) → start < i → i ≤ start + 64 → image i ≡ patched (start + 1) new (bytes_of s) i) → (part (start + 1) 63 image ≡ header) × (image (start + 64) ≢ 165)
     there image same = (
       part-list (start + 1) 63 image header width
-      (λ n lt.
-        let at_n : start + 1 + n - (start + 1) ≡ n = omega arith in
-        same (start + 1 + n) (omega arith) (omega arith) ∙ patched-inside (start + 1) new (bytes_of s) (start + 1 + n) (record { from = omega arith; to = omega (arith, length_new) })
-        ∙ (λ j. get_or (new_is j) (at_n j) 0) ∙ get_or_append_left header (0 ∷ []) 0 n (omega (arith, width))),
+          (λ n lt.
+          let at_n : start + 1 + n - (start + 1) ≡ n = omega arith in
+          same (start + 1 + n) (omega arith) (omega arith) ∙ patched-inside (start + 1) new (bytes_of s) (start + 1 + n) (record { from = omega arith; to = omega (arith, length_new) })
+          ∙ (λ j. get_or (new_is j) (at_n j) 0) ∙ get_or_append_left header (0 ∷ []) 0 n (omega (arith, width))),
       λ is_open.
-        let at_63 : start + 64 - (start + 1) ≡ 63 = omega arith in
-        let zero_is : image (start + 64) ≡ 0 =
-        same (start + 64) (omega arith) (omega arith) ∙ patched-inside (start + 1) new (bytes_of s) (start + 64) (record { from = omega arith; to = omega (arith, length_new) })
-        ∙ (λ j. get_or (new_is j) (at_63 j) 0) ∙ get_or_at header 0 [] 0 63 width in
-        omega (arith, zero_is, is_open),
+          let at_63 : start + 64 - (start + 1) ≡ 63 = omega arith in
+          let zero_is : image (start + 64) ≡ 0 =
+          same (start + 64) (omega arith) (omega arith) ∙ patched-inside (start + 1) new (bytes_of s) (start + 64) (record { from = omega arith; to = omega (arith, length_new) })
+          ∙ (λ j. get_or (new_is j) (at_63 j) 0) ∙ get_or_at header 0 [] 0 63 width in
+          omega (arith, zero_is, is_open),
     )
 
     -- while the gate is opened
@@ -175,7 +174,7 @@ module _ (s : Story) (k : ℕ) (below : k < 4) (still : IsStill s) where
     pub started : HasStarted k header s started_story
     started = record {
       segments = segments_of-set k (bytes_of s) (bytes_of started_story) (Some (started_segment header)) below started_there.0
-        (segments-elsewhere k (bytes_of s) (bytes_of started_story) (λ i away j lt looked. started_others i away));
+          (segments-elsewhere k (bytes_of s) (bytes_of started_story) (λ i away j lt looked. started_others i away));
       started = started_gate;
       empty = ap length started_there.1;
       others = started_others;
@@ -205,7 +204,6 @@ turning-first k header old image (inr closed_one) = inr (inl closed_one)
 pub turning-second : (k : ℕ) (header : List ℕ) (old mid image : Segments) → mid ≡ set old k None → IsOneOf mid (set mid k (Some (started_segment header))) image → IsTurning k header old image
 turning-second k header old mid image is (inl same) = inr (inl (same ∙ is))
 turning-second k header old mid image is (inr new) = inr (inr (new ∙ ap (λ (l : Segments). set l k (Some (started_segment header))) is ∙ set-again old k None (Some (started_segment header))))
-
 
 pub turning-third : (k : ℕ) (header : List ℕ) (old image : Segments) → IsOneOf old (set old k (Some (started_segment header))) image → IsTurning k header old image
 turning-third k header old image (inl same) = inl same
@@ -237,7 +235,7 @@ module _ (s : Story) (k generation first_lsn : ℕ) (below : k < 4) (still : IsS
       leaves-more t (segment_start k + 1) (header ++ 0 ∷ []) (Write (segment_start k) (165 ∷ []) ∷ Sync ∷ []) Turns
       (λ image is. so (segments_of image) (staging t k below t_still shut header (header ++ 0 ∷ []) (length-header_bytes generation first_lsn) refl image is))
       (leaves-one (after t (Write (segment_start k + 1) (header ++ 0 ∷ []) ∷ Sync ∷ [])) (segment_start k) (165 ∷ []) Turns
-        (λ image is. so (segments_of image) (opening t k below t_still shut header (header ++ 0 ∷ []) (length-header_bytes generation first_lsn) refl image is)))
+      (λ image is. so (segments_of image) (opening t k below t_still shut header (header ++ 0 ∷ []) (length-header_bytes generation first_lsn) refl image is)))
 
   pub turn-leaves : (is_open : Bool) → is_open ≡ (bytes_of s (segment_start k) == 165) → Leaves s (calls is_open) Turns
   turn-leaves true is =
@@ -245,7 +243,7 @@ module _ (s : Story) (k generation first_lsn : ℕ) (below : k < 4) (still : IsS
       leaves-more s (segment_start k) (0 ∷ []) (start_calls k generation first_lsn) Turns
       (λ image during. turning-first k header (segments_of (bytes_of s)) (segments_of image) (closing s k below still (gate-open (bytes_of s (segment_start k)) is) image during))
       (start-leaves (closed_story s k below still) (closed_still s k below still) first.closed
-        (λ image one. turning-second k header (segments_of (bytes_of s)) (segments_of (bytes_of (closed_story s k below still))) image first.segments one))
+      (λ image one. turning-second k header (segments_of (bytes_of s)) (segments_of (bytes_of (closed_story s k below still))) image first.segments one))
   turn-leaves false is = start-leaves s still (gate-shut (bytes_of s (segment_start k)) is) (λ image one. turning-third k header (segments_of (bytes_of s)) image one)
 
   -- what the change has done at its end

@@ -1,5 +1,5 @@
 -- A walk over the segments, in order.
-use Rattle.std.proofs.Common.{◌≡◌, ◌≢◌, ◌⊎◌, inl, inr, ⊎_elim, ℕ, zero, suc, ◌+◌, ◌-◌, ◌<◌, ◌≤◌, ◌^◌, List, [], ◌∷◌, ◌++◌, length, get_or, take, drop, map, Option, Some, None, refl, sym, ◌∙◌, ap, subst, arith, append_assoc, All, Bool, true, false, nat_le, if◌then◌else◌, ◌%◌}
+use Rattle.std.proofs.Common.{◌≡◌, ◌⊎◌, inl, inr, ⊎_elim, ℕ, zero, suc, ◌+◌, ◌<◌, ◌≤◌, ◌^◌, List, [], ◌∷◌, ◌++◌, length, get_or, take, drop, map, Option, Some, None, refl, sym, ◌∙◌, ap, subst, arith, append_assoc, All, Bool, true, false, nat_le, if◌then◌else◌, ◌%◌}
 use Rattle.std.specs.Option.{option_map}
 use Rattle.std.proofs.lemmas.List.{drop_more, take_more, get_or-map, length-map, length-drop, append-nil}
 use Rattle.std.proofs.Math.Seq.{take-length, drop-length}
@@ -10,13 +10,13 @@ use Rattle.wal_log.specs.State.{IsStill, IsSegmentStill, HasLast}
 use Rattle.wal_log.specs.Found.{IsOpenStill}
 use Rattle.wal_log.specs.Records.{record_of}
 use Rattle.wal_log.specs.Headers.{first_lsn_in, generation_in}
-use Rattle.wal_log.specs.Segments.{Segment, segment_header, segment_at, segment_records, segments_of}
-use Rattle.wal_log.specs.Rules.{Numbered, HasStart, HasRecords, IsSegment, IsEnd, AreEnds, IsSound, AreSound, IsFirstUnsound, Opens, OpensFrom, IsBad, IsBadFrom, in_order, records_in, records_of, Follows}
+use Rattle.wal_log.specs.Segments.{Segment, segment_header, segment_records, segments_of}
+use Rattle.wal_log.specs.Rules.{Numbered, HasStart, IsSegment, IsEnd, AreEnds, IsSound, AreSound, IsFirstUnsound, Opens, OpensFrom, IsBad, IsBadFrom, in_order, records_in, records_of, Follows}
 use Rattle.std.proofs.lemmas.Bool.{cases_eq}
 use Rattle.wal_log.specs.Places.{segment_start}
 use Rattle.wal_log.specs.Heads.{numbered_at, open_heads, heads_above, header_of, with_head, placed_head}
 use Rattle.wal_log.specs.Laws.Agreeing.{segment_at-open, segment_at-shut}
-use Rattle.wal_log.specs.Walk.{ended_of, GoesOn, StartsAfter, EndsThere, HasReadSegment, IsUnsound, IsNewest, HasEnded, HasEndedBefore, IsEndOf, IsCountedEnd}
+use Rattle.wal_log.specs.Walk.{ended_of, GoesOn, StartsAfter, EndsThere, HasReadSegment, IsUnsound, IsNewest, HasEndedBefore, IsEndOf, IsCountedEnd}
 use Rattle.wal_log.specs.declared.heads.Head.{Head}
 use Rattle.wal_log.specs.declared.walk.Ended.{Ended}
 use Rattle.wal_log.specs.declared.records.Record.{Record}
@@ -93,7 +93,7 @@ module _ (ends : List ℕ) (b : Bytes) (heads : List Head) (i : ℕ) (before : O
   pub walked-unsound : IsUnsound b before h → IsFirstUnsound ends None ns h.number
   walked-unsound bad =
       walked.unsound h.number (subst (λ (l : List Numbered). IsFirstUnsound ends walked.behind l h.number) (sym split)
-        (inl (λ sound. bad (started sound.segment.start) sound.segment.records, refl)))
+      (inl (λ sound. bad (started sound.segment.start) sound.segment.records, refl)))
 
   module _ (ended : Ended) (later : List Record) (read : HasReadSegment b before h records ended later) where
     sound_segment : IsSegment walked.behind n
@@ -124,13 +124,13 @@ module _ (ends : List ℕ) (b : Bytes) (heads : List Head) (i : ℕ) (before : O
       pub walked-all : All (EndsThere before h) ends → AreSound ends None ns
       walked-all there =
           walked.sound (subst (AreSound ends walked.behind) (sym (split ∙ ap (λ (l : List Numbered). n ∷ l) none_behind))
-            (record { segment = sound_segment; ends_there = ends-from b walked.behind h ends (subst (λ (e : Option Ended). All (EndsThere e h) ends) walked.same there) }, tt))
+          (record { segment = sound_segment; ends_there = ends-from b walked.behind h ends (subst (λ (e : Option Ended). All (EndsThere e h) ends) walked.same there) }, tt))
 
       -- the newest, where one ends elsewhere
       pub walked-elsewhere : (All (EndsThere before h) ends → ⊥) → IsFirstUnsound ends None ns h.number
       walked-elsewhere elsewhere =
           walked.unsound h.number (subst (λ (l : List Numbered). IsFirstUnsound ends walked.behind l h.number) (sym (split ∙ ap (λ (l : List Numbered). n ∷ l) none_behind))
-            (inl (λ sound. elsewhere (subst (λ (e : Option Ended). All (EndsThere e h) ends) (sym walked.same) (ends-to b walked.behind h ends sound.ends_there)), refl)))
+          (inl (λ sound. elsewhere (subst (λ (e : Option Ended). All (EndsThere e h) ends) (sym walked.same) (ends-to b walked.behind h ends sound.ends_there)), refl)))
 
       pub walked-records : later ≡ records_in ns
       walked-records = more_read ∙ ap records_in (ap (λ (m : ℕ). take m ns) (last ∙ sym long) ∙ take-length ns)
@@ -242,7 +242,7 @@ newest-there b heads i h before old now at_end are lt here read last =
     last-at (map (numbered_at b) heads) i (numbered_at b h) (numbered_at b h) (last ∙ sym (length-map heads (numbered_at b))) item in
     record {
       last = subst (λ (l : List Numbered). HasLast at_end.generation (at_end.first_lsn + at_end.records) at_end.records l) (same_order [] b heads are)
-        (subst (λ (e : Ended). HasLast e.generation (e.first_lsn + e.records) e.records (map (numbered_at b) heads)) (sym read.ended) whole);
+          (subst (λ (e : Ended). HasLast e.generation (e.first_lsn + e.records) e.records (map (numbered_at b) heads)) (sym read.ended) whole);
       started = subst (λ (k : ℕ). b (segment_start k) ≡ 165) number is_open.1;
       counts = subst (λ (k : ℕ). length (segment_records k b) ≡ at_end.records) number (sym (ap (λ (e : Ended). e.records) read.ended));
     }

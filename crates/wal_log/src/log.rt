@@ -52,7 +52,7 @@ impl Log {
         ensures at_rest { OnOk result (WhereTold (D.story device.old) (IsAtRest self.old) → WhereTold (D.story device.new) (IsAtRest self.new)) }
         ensures appended { OnOk result (WhereTold (D.story device.old) (λ s. IsAtRest self.old s → WhereTold (D.story device.new)
             (λ t. segments_of (bytes_of t) ≡ set (segments_of (bytes_of s)) (newest self.old)
-                (with_record (record_bytes logged.now) (get_or (segments_of (bytes_of s)) (newest self.old) None))))) }
+            (with_record (record_bytes logged.now) (get_or (segments_of (bytes_of s)) (newest self.old) None))))) }
 
         // The rules hold of the log with the new record, and each image reads as the records before it, or these and the new one.
         ensures log_of { OnOk result (WhereTold (D.story device.old) (λ s. IsAtRest self.old s → IsLogOf self.old (segments_of (bytes_of s)) →
@@ -150,7 +150,12 @@ fn close_header<D: Device>(device: &mut D, k: u8) -> Result<(), Failed>
 }
 
 /// Starts a segment whose header is closed.
-fn start_segment<D: Device>(device: &mut D, k: u8, generation: u64, first_lsn: u64) -> Result<(), Failed>
+fn start_segment<D: Device>(
+    device: &mut D,
+    k: u8,
+    generation: u64,
+    first_lsn: u64,
+) -> Result<(), Failed>
     requires below { k < 4 }
     requires pages { LOG_PAGES ≤ D.pages device.old }
     ensures did { Did (start_calls k generation first_lsn) (D.story device.old) (D.story device.new) result }

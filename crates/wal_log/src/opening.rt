@@ -48,7 +48,11 @@ fn open_headers<D: Device>(device: &mut D) -> Result<[bool; 4], Failed>
 impl Log {
     /// Reads the log: its end, and all records in order. `ends` are the numbers of the last records that the indexes hold,
     /// and there is one at least.
-    pub fn read_all<D: Device>(device: &mut D, ends: &[u64], alloc: Global) -> Result<(Log, Vec<Record>), LogFault>
+    pub fn read_all<D: Device>(
+        device: &mut D,
+        ends: &[u64],
+        alloc: Global,
+    ) -> Result<(Log, Vec<Record>), LogFault>
         requires pages { LOG_PAGES ≤ D.pages device.old }
         requires some { 1 ≤ length ends.now }
         requires below { All (λ last. last < 2 ^ 62) ends.now }

@@ -39,7 +39,12 @@ pub enum Found {
 }
 
 /// Fills the window where a place is the first in it.
-fn fill_window<D: Device>(device: &mut D, segment: u8, place: u64, window: &mut [u8]) -> Result<(), Failed>
+fn fill_window<D: Device>(
+    device: &mut D,
+    segment: u8,
+    place: u64,
+    window: &mut [u8],
+) -> Result<(), Failed>
     requires below { segment < 4 }
     requires place { place ≤ MOST_RECORDS }
     requires pages { LOG_PAGES ≤ D.pages device.old }
@@ -74,7 +79,13 @@ fn find_place(window: &[u8], place: u64, first_lsn: u64) -> Found
 }
 
 /// Reads the place of a record, with those behind it where the window doesn't hold it yet.
-fn read_place<D: Device>(device: &mut D, segment: u8, place: u64, first_lsn: u64, window: &mut [u8]) -> Result<Found, Failed>
+fn read_place<D: Device>(
+    device: &mut D,
+    segment: u8,
+    place: u64,
+    first_lsn: u64,
+    window: &mut [u8],
+) -> Result<Found, Failed>
     requires below { segment < 4 }
     requires place { place ≤ MOST_RECORDS }
     requires pages { LOG_PAGES ≤ D.pages device.old }
@@ -91,7 +102,12 @@ fn read_place<D: Device>(device: &mut D, segment: u8, place: u64, first_lsn: u64
 }
 
 /// Reads the records of a segment to the end of a list, and answers how many there were.
-pub fn read_records<D: Device>(device: &mut D, segment: u8, first_lsn: u64, records: &mut Vec<Record>) -> Result<u64, LogFault>
+pub fn read_records<D: Device>(
+    device: &mut D,
+    segment: u8,
+    first_lsn: u64,
+    records: &mut Vec<Record>,
+) -> Result<u64, LogFault>
     requires below { segment < 4 }
     requires pages { LOG_PAGES ≤ D.pages device.old }
     ensures read { IfOk result (λ count. WhereTold (D.story device.old) (λ s. IsOpenStill segment s →

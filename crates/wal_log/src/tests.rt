@@ -15,8 +15,7 @@ const MOST_LSN: u64 = 0x4000_0000_0000_0000;
 /// The example record has these bytes.
 fn example()
     ensures { record_bytes first_write ≡ first_write_bytes }
-{
-}
+{}
 
 /// A device with the log of an empty store: segment 0 is open, with generation 0 and the first number 1.
 fn fresh(alloc: Global) -> Option<MemDevice>
@@ -101,7 +100,13 @@ fn change(device: &mut MemDevice, segment: u8, at: u16, byte: u8) -> Option<u8> 
 }
 
 /// How the log reads with one byte changed.
-fn read_changed(device: &mut MemDevice, segment: u8, at: u16, byte: u8, alloc: Global) -> Option<Result<usize, LogFault>> {
+fn read_changed(
+    device: &mut MemDevice,
+    segment: u8,
+    at: u16,
+    byte: u8,
+    alloc: Global,
+) -> Option<Result<usize, LogFault>> {
     let was = change(device, segment, at, byte)?;
     let answer = read(device, 2, alloc);
     change(device, segment, at, was)?;
@@ -116,7 +121,10 @@ fn appended_records_are_read(rt: HostRuntime) -> Result<(), Fail> {
     };
     let mut bytes = [0; 29];
     assert!(rt; device.read(36_928, &mut bytes).is_ok());
-    assert_eq!(rt; &bytes[..], b"\xa5\x01\x00\x01\0\0\0\0\0\0\0\x01\0\0\0\0\0\0\0\x07\0\x03\0\x04\0\0\0\0a".as_slice());
+    assert_eq!(rt;
+        &bytes[..],
+        b"\xa5\x01\x00\x01\0\0\0\0\0\0\0\x01\0\0\0\0\0\0\0\x07\0\x03\0\x04\0\0\0\0a".as_slice()
+    );
     assert_eq!(rt; read(&mut device, 2, alloc), Some(Ok(3)));
     assert_eq!(rt; read(&mut device, 0, alloc), Some(Ok(3)));
     assert_eq!(rt; read(&mut device, 1, alloc), Some(Err(LogFault::BadLog(1))));
@@ -131,26 +139,30 @@ fn each_rule_names_its_segment(rt: HostRuntime) -> Result<(), Fail> {
     };
     // segment, place in it, byte, the segment that is named
     for (segment, at, byte, bad) in [
-        (1, 8, 2, 1),    // a generation that belongs elsewhere
-        (1, 20, 1, 1),   // a reserved byte of a header
-        (1, 16, 4, 1),   // a first number that doesn't follow
-        (0, 16, 2, 0),   // generation 0 that doesn't begin with 1
-        (2, 0, 165, 2),  // an open header of zeros
-        (0, 65, 3, 0),   // no kind of record
-        (0, 66, 2, 0),   // no flag
-        (0, 67, 65, 0),  // a note too long
-        (0, 92, 32, 0),  // a blank in a note
-        (0, 93, 1, 0),   // a byte behind the note
-        (0, 159, 1, 0),  // a reserved byte of a record
-        (0, 171, 3, 0),  // the number of the second record
+        (1, 8, 2, 1), // a generation that belongs elsewhere
+        (1, 20, 1, 1), // a reserved byte of a header
+        (1, 16, 4, 1), // a first number that doesn't follow
+        (0, 16, 2, 0), // generation 0 that doesn't begin with 1
+        (2, 0, 165, 2), // an open header of zeros
+        (0, 65, 3, 0), // no kind of record
+        (0, 66, 2, 0), // no flag
+        (0, 67, 65, 0), // a note too long
+        (0, 92, 32, 0), // a blank in a note
+        (0, 93, 1, 0), // a byte behind the note
+        (0, 159, 1, 0), // a reserved byte of a record
+        (0, 171, 3, 0), // the number of the second record
         (0, 164, 64, 0), // a number of 2^62 and more
-        (0, 162, 0, 0),  // a delete without an old point
-        (0, 180, 1, 0),  // a delete with a point
-        (1, 92, 45, 1),  // a note that is a single dash
-        (0, 64, 0, 1),   // records that are missing
+        (0, 162, 0, 0), // a delete without an old point
+        (0, 180, 1, 0), // a delete with a point
+        (1, 92, 45, 1), // a note that is a single dash
+        (0, 64, 0, 1), // records that are missing
         (0, 256, 165, 0), // an open gate over no record
     ] {
-        assert_eq!(rt; read_changed(&mut device, segment, at, byte, alloc), Some(Err(LogFault::BadLog(bad))), "{segment} {at}");
+        assert_eq!(rt;
+            read_changed(&mut device, segment, at, byte, alloc),
+            Some(Err(LogFault::BadLog(bad))),
+            "{segment} {at}"
+        );
     }
     assert_eq!(rt; read(&mut device, 2, alloc), Some(Ok(3)));
     Ok(())
@@ -174,7 +186,11 @@ fn scatter(device: &mut MemDevice, seed: u32) -> Option<()> {
     for at in 0..400 {
         for segment in 0..4 {
             state = state.wrapping_mul(1_664_525).wrapping_add(1_013_904_223);
-            let byte = if state >> 30 == 0 { 165 } else { (state >> 20 & 3) as u8 };
+            let byte = if state >> 30 == 0 {
+                165
+            } else {
+                (state >> 20 & 3) as u8
+            };
             change(device, segment, at, byte)?;
         }
     }
@@ -195,7 +211,12 @@ fn any_bytes_are_read_or_refused(rt: HostRuntime) -> Result<(), Fail> {
 }
 
 /// How the log reads after a crash.
-fn read_image(device: &MemDevice, moment: u64, torn: Torn, alloc: Global) -> Option<Result<usize, LogFault>> {
+fn read_image(
+    device: &MemDevice,
+    moment: u64,
+    torn: Torn,
+    alloc: Global,
+) -> Option<Result<usize, LogFault>> {
     let mut image = device.image_at(moment, torn).ok()?;
     read(&mut image, 0, alloc)
 }

@@ -92,7 +92,12 @@ pub fn all_end_there(before: Option<Ended>, head: &Head, ends: &[u64]) -> bool
 }
 
 /// Reads a segment that comes after another one, to the end of a list of records.
-fn read_segment<D: Device>(device: &mut D, before: Option<Ended>, head: &Head, records: &mut Vec<Record>) -> Result<Ended, LogFault>
+fn read_segment<D: Device>(
+    device: &mut D,
+    before: Option<Ended>,
+    head: &Head,
+    records: &mut Vec<Record>,
+) -> Result<Ended, LogFault>
     requires pages { LOG_PAGES ≤ D.pages device.old }
     ensures read { IfOk result (λ ended. WhereTold (D.story device.old) (λ s. IsOpenStill head.now.number s →
         HasReadSegment (bytes_of s) before head.now records.old.items ended records.new.items)) }
@@ -119,7 +124,11 @@ fn read_segment<D: Device>(device: &mut D, before: Option<Ended>, head: &Head, r
 }
 
 /// Reads all records of the log, and answers the end of the newest segment with them.
-pub fn read_segments<D: Device>(device: &mut D, ends: &[u64], alloc: Global) -> Result<(Ended, Vec<Record>), LogFault>
+pub fn read_segments<D: Device>(
+    device: &mut D,
+    ends: &[u64],
+    alloc: Global,
+) -> Result<(Ended, Vec<Record>), LogFault>
     requires pages { LOG_PAGES ≤ D.pages device.old }
     requires some { 1 ≤ length ends.now }
     requires below { All (λ last. last < 2 ^ 62) ends.now }

@@ -1,6 +1,6 @@
 -- What is read of segments from bytes that agree in part, and from each image of a story in which all that is looked at is on the
 -- disk. No public contract needs these laws.
-use Rattle.std.proofs.Common.{◌≡◌, ◌≢◌, ◌⊎◌, inl, inr, ⊎_elim, ℕ, zero, suc, ◌+◌, ◌-◌, ◌*◌, ◌<◌, ◌≤◌, List, [], ◌∷◌, ◌++◌, length, set, get_or, refl, sym, ◌∙◌, ap, subst, arith, Option, Some, None, if◌then◌else◌, ◌==◌, true, false, Bool}
+use Rattle.std.proofs.Common.{◌≡◌, ◌≢◌, ◌⊎◌, inl, inr, ⊎_elim, ℕ, zero, suc, ◌+◌, ◌-◌, ◌*◌, ◌<◌, ◌≤◌, List, [], ◌∷◌, ◌++◌, length, set, get_or, refl, sym, ◌∙◌, ap, subst, arith, Option, Some, None, if◌then◌else◌, ◌==◌}
 use Rattle.std.proofs.lemmas.Bool.{cases_eq}
 use Rattle.std.proofs.lemmas.Bool.Decides.{nat_tests}
 use Rattle.std.proofs.lemmas.List.{nil_from_length, append-nil}
@@ -8,7 +8,7 @@ use Rattle.dev_model.specs.Story.{Bytes, Story, bytes_of, part, IsImageNow}
 use Rattle.dev_model.specs.Laws.Ranges.{part-same}
 use Rattle.wal_log.specs.Places.{segment_start, record_start}
 use Rattle.wal_log.specs.State.{IsStill}
-use Rattle.wal_log.specs.Segments.{Segment, Segments, open_records, segment_records, segment_header, segment_at, segments_of, with_record, IsLooked}
+use Rattle.wal_log.specs.Segments.{Segment, open_records, segment_records, segment_header, segment_at, segments_of, with_record, IsLooked}
 
 pub open_records-shut : (places at : ℕ) (a : Bytes) → a at ≢ 165 → open_records places at a ≡ []
 unfolding open_records

@@ -1,4 +1,4 @@
-use Rattle.std.proofs.Common.{◌≡◌, ℕ, arith, ap, nat_eq}
+use Rattle.std.proofs.Common.{ℕ, arith, ap, nat_eq}
 use Rattle.dev_model.specs.Laws.Reads.{ReadsWithin-read}
 use Rattle.wal_log.specs.Places.{IsInLog}
 use Rattle.wal_log.proofs.HeadsFound.{gate_is}

@@ -1,4 +1,4 @@
-use Rattle.std.proofs.Common.{◌≡◌, ◌==◌, ℕ, arith}
+use Rattle.std.proofs.Common.{◌≡◌, ◌==◌, arith}
 use Rattle.dev_model.specs.Story.{Bytes, bytes_of}
 use Rattle.dev_model.specs.Laws.Reads.{ReadsWithin-then}
 use Rattle.wal_log.specs.Places.{IsInLog}

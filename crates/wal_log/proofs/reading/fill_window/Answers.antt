@@ -1,4 +1,4 @@
-use Rattle.std.proofs.Common.{◌≡◌, arith}
+use Rattle.std.proofs.Common.{arith}
 use Rattle.dev_model.specs.Laws.Reads.{ReadsWithin-read}
 use Rattle.wal_log.specs.Places.{IsInLog}
 use Rattle.wal_log.proofs.reading.fill_window.Goals as goal

@@ -1,4 +1,4 @@
-use Rattle.std.proofs.Common.{◌≡◌, ◌+◌, ◌*◌, ◌%◌, ℕ, ap, subst, sym, ◌∙◌}
+use Rattle.std.proofs.Common.{◌+◌, ◌*◌, ◌%◌, ap, subst, sym, ◌∙◌}
 use Rattle.wal_log.specs.Records.{record_of, IsRecord}
 use Rattle.wal_log.proofs.Finding.{slice-is}
 use Rattle.wal_log.proofs.reading.find_place.Goals as goal

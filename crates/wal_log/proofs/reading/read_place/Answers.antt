@@ -1,4 +1,4 @@
-use Rattle.std.proofs.Common.{◌≡◌, ◌+◌, ◌*◌, ◌%◌, ℕ, arith}
+use Rattle.std.proofs.Common.{◌+◌, ◌*◌, ◌%◌, arith}
 use Rattle.wal_log.specs.Places.{record_start}
 use Rattle.wal_log.specs.Found.{window_start}
 use Rattle.wal_log.proofs.Finding.{found-in, holds-next, place-in}

@@ -1,4 +1,3 @@
-use Rattle.std.proofs.Common.{◌≡◌}
 use Rattle.wal_log.specs.Examples.{first_write-bytes}
 use Rattle.wal_log.proofs.tests.example.Goals as goal
 

@@ -1,4 +1,4 @@
-use Rattle.std.proofs.Common.{◌≡◌, ◌+◌, ◌<◌, ◌≤◌, ℕ, inl, inr, ⊎_elim, subst, arith, sym, ap, ◌∙◌, length}
+use Rattle.std.proofs.Common.{inr, ⊎_elim, subst, arith, sym, ◌∙◌}
 use Rattle.dev_model.specs.Story.{bytes_of}
 use Rattle.dev_model.specs.Laws.Reads.{ReadsWithin-then}
 use Rattle.wal_log.specs.Places.{IsInLog}
@@ -20,9 +20,9 @@ returns-then-i-len-clause-reads g c s is = ReadsWithin-then IsInLog s _ _ (c.loo
 pub returns-in-Err-read_segment-clause-bad : goal.returns-in-Err-read_segment-clause-bad
 returns-in-Err-read_segment-clause-bad g c =
     WhereBad-map c.in-Err-read_segment.fault _ _ (λ number bad s is still.
-      subst (IsBad c.args.ends.now (segments_of (bytes_of s))) (sym bad.0)
-      (is_bad c.args.ends.now (bytes_of s) c.in-Ok.heads.items (c.loop-i.invariant.heads s is still) c.index.result.now.number (omega (arith, c.loop-i-test.true, c.len-i-end.ensures, c.in-Ok.heads.ok))
-        (walked-unsound c.args.ends.now (bytes_of s) c.in-Ok.heads.items c.loop-i.i c.loop-i.before c.loop-i.records.items (c.loop-i.invariant.walked s is still) (omega (arith, c.loop-i-test.true, c.len-i-end.ensures, c.in-Ok.heads.ok)) c.index.result.now c.index.ensures (told-back-open (λ b. IsUnsound b c.loop-i.before c.index.result.now) c.index.result.now.number s _ (c.loop-i.invariant.reads s is) bad.1 (head-still s c.in-Ok.heads.items c.loop-i.i c.index.result.now (c.loop-i.invariant.heads s is still) (omega (arith, c.loop-i-test.true, c.len-i-end.ensures, c.in-Ok.heads.ok)) c.index.ensures still)))))
+    subst (IsBad c.args.ends.now (segments_of (bytes_of s))) (sym bad.0)
+    (is_bad c.args.ends.now (bytes_of s) c.in-Ok.heads.items (c.loop-i.invariant.heads s is still) c.index.result.now.number (omega (arith, c.loop-i-test.true, c.len-i-end.ensures, c.in-Ok.heads.ok))
+    (walked-unsound c.args.ends.now (bytes_of s) c.in-Ok.heads.items c.loop-i.i c.loop-i.before c.loop-i.records.items (c.loop-i.invariant.walked s is still) (omega (arith, c.loop-i-test.true, c.len-i-end.ensures, c.in-Ok.heads.ok)) c.index.result.now c.index.ensures (told-back-open (λ b. IsUnsound b c.loop-i.before c.index.result.now) c.index.result.now.number s _ (c.loop-i.invariant.reads s is) bad.1 (head-still s c.in-Ok.heads.items c.loop-i.i c.index.result.now (c.loop-i.invariant.heads s is still) (omega (arith, c.loop-i-test.true, c.len-i-end.ensures, c.in-Ok.heads.ok)) c.index.ensures still)))))
     c.in-Err-read_segment.ensures.bad
 
 pub returns-then-not-all_end_there-clause-bad : goal.returns-then-not-all_end_there-clause-bad

@@ -1,9 +1,9 @@
-use Rattle.std.proofs.Common.{◌≡◌, ◌+◌, ◌++◌, [], ◌∷◌, ℕ, sym, ◌∙◌, ap, arith, length, refl, Ok, Err, subst}
+use Rattle.std.proofs.Common.{◌+◌, [], ◌∷◌, sym, ◌∙◌, ap, arith, refl, Ok, Err, subst}
 use Rattle.std.proofs.lemmas.Nat.{mod_below}
-use Rattle.dev_model.specs.Story.{Story, Write, Sync}
+use Rattle.dev_model.specs.Story.{Write, Sync}
 use Rattle.wal_log.specs.Places.{record_start}
 use Rattle.wal_log.specs.Records.{record_bytes}
-use Rattle.wal_log.specs.State.{newest, append_calls}
+use Rattle.wal_log.specs.State.{append_calls}
 use Rattle.wal_log.proofs.Planned.{told-before, told-end, stopped-first, stopped-second, done-both}
 use Rattle.wal_log.proofs.Growing.{append-within, append-are, append-leaves, append-grown, append-rests}
 use Rattle.wal_log.specs.Segments.{segments_of}
