@@ -1,0 +1,11 @@
+pub mod Finding
+pub mod Growing
+pub mod HeadsFound
+pub mod Keeping
+pub mod LogFound
+pub mod Ordering
+pub mod Planned
+pub mod Renewing
+pub mod Spelled
+pub mod Turning
+pub mod Walking

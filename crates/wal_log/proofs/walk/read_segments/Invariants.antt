@@ -1,0 +1,19 @@
+use Rattle.std.proofs.Common.{◌≡◌, ◌≤◌, ◌<◌, ◌⊎◌, length}
+use Rattle.dev_model.specs.Story.{WhereTold, bytes_of}
+use Rattle.wal_log.specs.State.{IsStill}
+use Rattle.wal_log.specs.Places.{ReadsLog}
+use Rattle.wal_log.specs.Heads.{open_heads}
+use Rattle.wal_log.proofs.Walking.{Walked}
+use Rattle.wal_log.specs.Walk.{HasEndedBefore}
+use Rattle.wal_log.proofs.walk.read_segments.Given as goal
+
+abbrev pub invariant-loop-i : goal.invariant-loop-i
+invariant-loop-i g l = record {
+  reads : WhereTold (g.D.Device.story l.fn.device) (λ s. ReadsLog s (g.D.Device.story l.device));
+  heads : WhereTold (g.D.Device.story l.fn.device) (λ s. IsStill s → l.heads.items ≡ open_heads (bytes_of s));
+  walked : WhereTold (g.D.Device.story l.fn.device) (λ s. IsStill s → Walked l.ends (bytes_of s) l.heads.items l.i l.before l.records.items);
+  ended : HasEndedBefore l.before;
+  unfinished : (l.i ≡ 0) ⊎ (l.i < length l.heads.items);
+  same_pages : g.D.Device.pages l.device ≡ g.D.Device.pages l.fn.device;
+  faults : g.D.Device.fault_count l.fn.device ≤ g.D.Device.fault_count l.device;
+}

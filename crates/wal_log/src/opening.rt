@@ -1,0 +1,87 @@
+// The log as a value, from the device.
+ghost use Rattle.std.specs.Prelude.{◌≡◌, ◌==◌, ◌<◌, ◌≤◌, ◌^◌, length, All, IfOk, IfErr, ℕ, false, get_or};
+ghost use Rattle.dev_model.specs.Counts.{HasCause};
+ghost use Rattle.dev_model.specs.Story.{WhereTold, bytes_of};
+ghost use Rattle.wal_log.specs.Places.{ReadsLog};
+ghost use Rattle.wal_log.specs.Places.{segment_start};
+ghost use Rattle.wal_log.specs.Segments.{segments_of};
+ghost use Rattle.wal_log.specs.Rules.{Opens, IsBad, records_of};
+ghost use Rattle.wal_log.specs.Found.{WhereBad, HasCauseOfFault};
+ghost use Rattle.wal_log.specs.State.{IsAtRest, IsCounted, IsLogOf, IsSegmentStill, IsStill};
+
+use crate::places::{LOG_PAGES, OPEN, segment_start};
+use crate::walk::read_segments;
+use crate::{Log, LogFault, Record};
+use dev_model::{Device, Failed};
+use std::alloc::Global;
+
+/// Tells whether the gate of a segment's header is open.
+fn is_open<D: Device>(device: &mut D, segment: u8) -> Result<bool, Failed>
+    requires below { segment < 4 }
+    requires pages { LOG_PAGES ≤ D.pages device.old }
+    ensures told { IfOk result (λ answer. WhereTold (D.story device.old) (λ s. IsSegmentStill segment s → answer ≡ (bytes_of s (segment_start segment) == 165))) }
+    ensures reads { WhereTold (D.story device.old) (λ s. ReadsLog s (D.story device.new)) }
+    ensures same_pages { D.pages device.new ≡ D.pages device.old }
+    ensures cause { HasCause (D.fault_count device.old) (D.fault_count device.new) result }
+{
+    let mut gate = [0];
+    device.read(segment_start(segment), &mut gate)?;
+    Ok(gate[0] == OPEN)
+}
+
+/// Tells which headers are open.
+fn open_headers<D: Device>(device: &mut D) -> Result<[bool; 4], Failed>
+    requires pages { LOG_PAGES ≤ D.pages device.old }
+    ensures told { IfOk result (λ flags. WhereTold (D.story device.old) (λ s. IsStill s →
+        (k : ℕ) → k < 4 → get_or flags k false ≡ (bytes_of s (segment_start k) == 165))) }
+    ensures reads { WhereTold (D.story device.old) (λ s. ReadsLog s (D.story device.new)) }
+    ensures same_pages { D.pages device.new ≡ D.pages device.old }
+    ensures cause { HasCause (D.fault_count device.old) (D.fault_count device.new) result }
+{
+    let first = is_open(device, 0)?;
+    let second = is_open(device, 1)?;
+    let third = is_open(device, 2)?;
+    let fourth = is_open(device, 3)?;
+    Ok([first, second, third, fourth])
+}
+
+impl Log {
+    /// Reads the log: its end, and all records in order. `ends` are the numbers of the last records that the indexes hold,
+    /// and there is one at least.
+    pub fn read_all<D: Device>(
+        device: &mut D,
+        ends: &[u64],
+        alloc: Global,
+    ) -> Result<(Log, Vec<Record>), LogFault>
+        requires pages { LOG_PAGES ≤ D.pages device.old }
+        requires some { 1 ≤ length ends.now }
+        requires below { All (λ last. last < 2 ^ 62) ends.now }
+        ensures opens { IfOk result (λ read. WhereTold (D.story device.old) (λ s. IsStill s → Opens ends.now (segments_of (bytes_of s)))) }
+        ensures records { IfOk result (λ read. WhereTold (D.story device.old) (λ s. IsStill s → read.1.items ≡ records_of (segments_of (bytes_of s)))) }
+        ensures counted { IfOk result (λ read. IsCounted read.0) }
+        ensures log_of { IfOk result (λ read. WhereTold (D.story device.old) (λ s. IsStill s → IsLogOf read.0 (segments_of (bytes_of s)))) }
+        ensures at_rest { IfOk result (λ read. WhereTold (D.story device.old) (λ s. IsStill s → WhereTold (D.story device.new) (IsAtRest read.0))) }
+        ensures bad { IfErr result (λ fault. WhereBad fault (λ number.
+            WhereTold (D.story device.old) (λ s. IsStill s → IsBad ends.now (segments_of (bytes_of s)) number))) }
+        ensures reads { WhereTold (D.story device.old) (λ s. ReadsLog s (D.story device.new)) }
+        ensures same_pages { D.pages device.new ≡ D.pages device.old }
+        ensures cause { HasCauseOfFault (D.fault_count device.old) (D.fault_count device.new) result }
+    {
+        let open_headers = match open_headers(device) {
+            Ok(flags) => flags,
+            Err(_) => return Err(LogFault::Failed),
+        };
+        match read_segments(device, ends, alloc) {
+            Ok((ended, records)) => {
+                let log = Log {
+                    generation: ended.generation,
+                    next_lsn: ended.first_lsn + ended.records,
+                    records: ended.records,
+                    open_headers,
+                };
+                Ok((log, records))
+            }
+            Err(fault) => Err(fault),
+        }
+    }
+}

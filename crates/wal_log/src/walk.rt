@@ -1,0 +1,166 @@
+// The walk over the segments, from the oldest to the newest.
+ghost use Rattle.std.specs.Prelude.{◌≡◌, ◌+◌, ◌<◌, ◌≤◌, ◌^◌, ◌++◌, [], ◌∷◌, Some, None, IfOk, IfErr, OnOk, ℕ, length, drop, replicate, All, take};
+ghost use Rattle.std.specs.Bool.{OnTrue, OnFalse};
+ghost use Rattle.dev_model.specs.Story.{WhereTold, bytes_of};
+ghost use Rattle.wal_log.specs.Places.{ReadsLog};
+ghost use Rattle.wal_log.specs.State.{IsStill};
+ghost use Rattle.wal_log.specs.Segments.{segments_of};
+ghost use Rattle.wal_log.specs.Rules.{Opens, IsBad, records_of};
+ghost use Rattle.wal_log.specs.Found.{IsOpenStill, WhereBad, HasCauseOfFault};
+ghost use Rattle.wal_log.specs.Walk.{GoesOn, StartsAfter, EndsThere, HasReadSegment, IsUnsound, IsNewest, IsEndOf, IsCountedEnd};
+
+use crate::heads::{Head, read_heads};
+use crate::places::LOG_PAGES;
+use crate::reading::read_records;
+use crate::{LogFault, Record};
+use dev_model::Device;
+use std::alloc::Global;
+
+/// The end of a segment that was read.
+#[derive(Clone, Copy)]
+pub struct Ended {
+    pub generation: u64,
+    pub first_lsn: u64,
+    pub records: u64,
+}
+
+fn is_after(number: u64, before: u64, distance: u64) -> bool
+    ensures yes { OnTrue result (number ≡ before + distance) }
+    ensures no { OnFalse result (number ≡ before + distance → ⊥) }
+{
+    before <= number && number - before == distance
+}
+
+fn zeros() -> [u8; 47]
+    ensures { result ≡ replicate 47 0 }
+{
+    [0; 47]
+}
+
+fn is_reserved(head: &Head) -> bool
+    ensures yes { OnTrue result (drop 16 head.now.bytes ≡ replicate 47 0) }
+    ensures no { OnFalse result (drop 16 head.now.bytes ≡ replicate 47 0 → ⊥) }
+{
+    &head.bytes[16..] == &zeros()[..]
+}
+
+fn goes_on(before: Option<Ended>, head: &Head) -> bool
+    ensures yes { OnTrue result (GoesOn before head.now) }
+    ensures no { OnFalse result (GoesOn before head.now → ⊥) }
+{
+    match before {
+        None => head.first_lsn() >= 1 && (head.generation() != 0 || head.first_lsn() == 1),
+        Some(ended) => {
+            is_after(head.generation(), ended.generation, 1)
+                && is_after(head.first_lsn(), ended.first_lsn, ended.records)
+        }
+    }
+}
+
+/// Tests all that is asked of a header.
+pub fn starts_after(before: Option<Ended>, head: &Head) -> bool
+    ensures yes { OnTrue result (StartsAfter before head.now) }
+    ensures no { OnFalse result (StartsAfter before head.now → ⊥) }
+{
+    head.generation() % 4 == u64::from(head.number)
+        && is_reserved(head)
+        && goes_on(before, head)
+        && head.generation() <= head.first_lsn()
+}
+
+fn ends_there(before: Option<Ended>, head: &Head, last: u64) -> bool
+    ensures yes { OnTrue result (EndsThere before head.now last) }
+    ensures no { OnFalse result (EndsThere before head.now last → ⊥) }
+{
+    match before {
+        None => is_after(head.first_lsn(), last, 1),
+        Some(ended) => is_after(head.first_lsn(), last, 1) || is_after(ended.first_lsn, last, 1),
+    }
+}
+
+/// Tests that each index ends right before the newest segment, or right before the one before it.
+pub fn all_end_there(before: Option<Ended>, head: &Head, ends: &[u64]) -> bool
+    ensures yes { OnTrue result (All (EndsThere before head.now) ends.now) }
+    ensures no { OnFalse result (All (EndsThere before head.now) ends.now → ⊥) }
+{
+    for last in ends {
+        if !ends_there(before, head, *last) {
+            return false;
+        }
+    }
+    true
+}
+
+/// Reads a segment that comes after another one, to the end of a list of records.
+fn read_segment<D: Device>(
+    device: &mut D,
+    before: Option<Ended>,
+    head: &Head,
+    records: &mut Vec<Record>,
+) -> Result<Ended, LogFault>
+    requires pages { LOG_PAGES ≤ D.pages device.old }
+    ensures read { IfOk result (λ ended. WhereTold (D.story device.old) (λ s. IsOpenStill head.now.number s →
+        HasReadSegment (bytes_of s) before head.now records.old.items ended records.new.items)) }
+    ensures ended { IfOk result (IsEndOf before head.now) }
+    ensures bad { IfErr result (λ fault. WhereBad fault (λ number.
+        (number ≡ head.now.number) × WhereTold (D.story device.old) (λ s. IsOpenStill head.now.number s → IsUnsound (bytes_of s) before head.now))) }
+    ensures reads { WhereTold (D.story device.old) (λ s. ReadsLog s (D.story device.new)) }
+    ensures same_pages { D.pages device.new ≡ D.pages device.old }
+    ensures cause { HasCauseOfFault (D.fault_count device.old) (D.fault_count device.new) result }
+{
+    if !starts_after(before, head) {
+        return Err(LogFault::BadLog(head.number));
+    }
+    let generation = head.generation();
+    let first_lsn = head.first_lsn();
+    match read_records(device, head.number, first_lsn, records) {
+        Ok(count) => Ok(Ended {
+            generation,
+            first_lsn,
+            records: count,
+        }),
+        Err(fault) => Err(fault),
+    }
+}
+
+/// Reads all records of the log, and answers the end of the newest segment with them.
+pub fn read_segments<D: Device>(
+    device: &mut D,
+    ends: &[u64],
+    alloc: Global,
+) -> Result<(Ended, Vec<Record>), LogFault>
+    requires pages { LOG_PAGES ≤ D.pages device.old }
+    requires some { 1 ≤ length ends.now }
+    requires below { All (λ last. last < 2 ^ 62) ends.now }
+    ensures opens { IfOk result (λ read. WhereTold (D.story device.old) (λ s. IsStill s → Opens ends.now (segments_of (bytes_of s)))) }
+    ensures records { IfOk result (λ read. WhereTold (D.story device.old) (λ s. IsStill s → read.1.items ≡ records_of (segments_of (bytes_of s)))) }
+    ensures counted { IfOk result (λ read. IsCountedEnd read.0) }
+    ensures newest { IfOk result (λ read. WhereTold (D.story device.old) (λ s. IsStill s → IsNewest (bytes_of s) read.0)) }
+    ensures bad { IfErr result (λ fault. WhereBad fault (λ number.
+        WhereTold (D.story device.old) (λ s. IsStill s → IsBad ends.now (segments_of (bytes_of s)) number))) }
+    ensures reads { WhereTold (D.story device.old) (λ s. ReadsLog s (D.story device.new)) }
+    ensures same_pages { D.pages device.new ≡ D.pages device.old }
+    ensures cause { HasCauseOfFault (D.fault_count device.old) (D.fault_count device.new) result }
+{
+    let heads = match read_heads(device, alloc) {
+        Ok(heads) => heads,
+        Err(fault) => return Err(fault),
+    };
+    let mut records = Vec::new(alloc);
+    let mut before = None;
+    for i in 0..heads.len() {
+        let head = heads[i];
+        let ended = match read_segment(device, before, &head, &mut records) {
+            Ok(ended) => ended,
+            Err(fault) => return Err(fault),
+        };
+        if i + 1 == heads.len() {
+            if !all_end_there(before, &head, ends) {
+                return Err(LogFault::BadLog(head.number));
+            }
+            return Ok((ended, records));
+        }
+        before = Some(ended);
+    }
+    Err(LogFault::BadLog(0))
+}
