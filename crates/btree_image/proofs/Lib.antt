@@ -10,3 +10,4 @@ pub mod Leaf
 pub mod Found
 pub mod Told
 pub mod Trail
+pub mod Loading

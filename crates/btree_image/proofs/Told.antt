@@ -142,9 +142,9 @@ module _ {T K : Type 0} (l : Layout T K) (o : IsKeyOrder l.order) (a : 1 ≤ mos
         let st = stored_at l list is.stored (at * w + spot) s (omega arith) in
         elim (cases_Bool (eq_by_cmp l.order (l.key_of s.row) key)) [
           | inl same ↦ row_at-same l key _ (ap (λ k. eq_by_cmp l.order k key) k ∙ same) ∙ (ap l.of_bytes row ∙ (st.row_back
-          ∙ sym (found-last l o list is.ascends is.stored key (at * w + spot) here s (omega arith) same)))
+              ∙ sym (found-last l o list is.ascends is.stored key (at * w + spot) here s (omega arith) same)))
           | inr other ↦ row_at-other l key _ (ap (λ k. eq_by_cmp l.order k key) k ∙ other)
-          ∙ sym (found-none l o list is.ascends is.stored key (at * w + spot) here s (omega arith) other)
+              ∙ sym (found-none l o list is.ascends is.stored key (at * w + spot) here s (omega arith) other)
         ]
 
     -- a list without rows has no row of the key, and its leaf none at all

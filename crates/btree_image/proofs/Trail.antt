@@ -60,10 +60,10 @@ module _ {S : Type 0} (asked : S → S → List (ℕ × Bool) → Type 0)
   went-then first second third result seen page more so_far are_lent now same there =
       let went = subst (λ lent. Went lent (asked second third) result (page ∷ more)) same there in
       record {
-    asked_for = subst (asked first third) (sym (reads-append result seen page more)) (then first second third (given seen) (reads_of result (page ∷ more)) so_far went.asked_for);
-    are_lent = All-append (λ page. IsTrue (lent page)) seen (page ∷ more) are_lent went.are_lent;
-    stops = stops-append result seen (page ∷ more) went.stops;
-  }
+        asked_for = subst (asked first third) (sym (reads-append result seen page more)) (then first second third (given seen) (reads_of result (page ∷ more)) so_far went.asked_for);
+        are_lent = All-append (λ page. IsTrue (lent page)) seen (page ∷ more) are_lent went.are_lent;
+        stops = stops-append result seen (page ∷ more) went.stops;
+      }
 
   -- a refusal, as another call's
   pub went-err : {X Y : Type 0} (first second : S) (fault : PageFault) (pages : List ℕ)

@@ -5,7 +5,9 @@
 mod descend;
 mod in_page;
 mod levels;
+mod load;
 mod rows;
 
 pub use descend::find;
+pub use load::{load_page, pages_for};
 pub use rows::TreeRow;

@@ -48,11 +48,10 @@ returns-in-Err-clause-asked g c =
     let l = g.T.TreeRow.layout in
     let e = above c.loop-level.level c.loop-level-test.true in
     let inv = c.loop-level.invariant in
-    let page = page_number l c.args.tree.first c.args.tree.rows (suc (c.loop-level.level - 1)) c.loop-level.at in
-    (
+    let page = page_number l c.args.tree.first c.args.tree.rows (suc (c.loop-level.level - 1)) c.loop-level.at in (
       inv.seen ++ page ∷ [],
       went-then (g.P.Pages.asked) (g.met.P.Pages.asked_then) (g.P.Pages.lent c.args.pages.now) c.args.pages.now c.loop-level.pages _ _ inv.seen page []
-      inv.asked inv.are_lent _ inv.same_lent (went-err (g.P.Pages.asked) (g.met.P.Pages.asked_then) _ _ _ _ _ c.in-Err.ensures.went),
+          inv.asked inv.are_lent _ inv.same_lent (went-err (g.P.Pages.asked) (g.met.P.Pages.asked_then) _ _ _ _ _ c.in-Err.ensures.went),
       λ list root shown at_root.
           let at = subst (λ n. c.loop-level.at ≡ place_of_key l list c.args.key.now n) e (inv.told list shown) in
           let way = subst (λ n. inv.seen ++ descent l c.args.tree.first list c.args.key.now n ≡ descent l c.args.tree.first list c.args.key.now root) e (inv.way list root shown at_root) in (
@@ -96,11 +95,10 @@ returns-clause-asked g c =
     let l = g.T.TreeRow.layout in
     let z : c.loop-level.level ≡ 0 = omega arith in
     let inv = c.loop-level.invariant in
-    let page = page_number l c.args.tree.first c.args.tree.rows 0 c.loop-level.at in
-    (
+    let page = page_number l c.args.tree.first c.args.tree.rows 0 c.loop-level.at in (
       inv.seen ++ page ∷ [],
       went-then (g.P.Pages.asked) (g.met.P.Pages.asked_then) (g.P.Pages.lent c.args.pages.now) c.args.pages.now c.loop-level.pages _ _ inv.seen page []
-      inv.asked inv.are_lent _ inv.same_lent c.leaf_row.ensures.went,
+          inv.asked inv.are_lent _ inv.same_lent c.leaf_row.ensures.went,
       λ list root shown at_root.
           let at = subst (λ n. c.loop-level.at ≡ place_of_key l list c.args.key.now n) z (inv.told list shown) in
           let way = subst (λ n. inv.seen ++ descent l c.args.tree.first list c.args.key.now n ≡ descent l c.args.tree.first list c.args.key.now root) z (inv.way list root shown at_root) in

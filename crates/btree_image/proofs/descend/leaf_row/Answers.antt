@@ -20,7 +20,7 @@ returns-in-Ok-row_for-clause-told g c list shown e =
     let shows = shown_read l list c.args.tree.first c.args.tree.rows _ shown c.read_place.new.buf 0 c.args.at c.requires.place c.in-Ok.ensures.bytes in
     elim (cases_lt 0 (length list)) [
       | inl some ↦ c.in-Ok-row_for.ensures.row _ (leaf_place l k.key_order a b c.args.tree.rows list shown.is key c.args.at e c.read_place.new.buf shows some)
-      ∙ leaf_row-told l k.key_order a b c.args.tree.rows list shown.is key c.args.at e c.read_place.new.buf shows some
+          ∙ leaf_row-told l k.key_order a b c.args.tree.rows list shown.is key c.args.at e c.read_place.new.buf shows some
       | inr none ↦ (
           let empty = no_rows l k.key_order a b c.args.tree.rows list shown.is key c.args.at e c.read_place.new.buf shows none in
           c.in-Ok-row_for.ensures.none empty.0 ∙ empty.1)
