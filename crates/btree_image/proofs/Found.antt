@@ -1,5 +1,5 @@
 -- What a reader finds in one page.
-use Rattle.std.proofs.Common.{◌≡◌, ◌≢◌, ℕ, ◌+◌, ◌<◌, Bool, true, false, List, [], take, drop, length, Option, Some, None, arith, refl, sym, ◌∙◌, ap, cond}
+use Rattle.std.proofs.Common.{◌≡◌, ◌≢◌, ℕ, ◌+◌, ◌<◌, true, false, List, [], take, drop, Option, Some, None, arith, refl, sym, ◌∙◌, ap}
 use Rattle.std.specs.Prelude.{slice_index_or, IfSome, IfNone}
 use Rattle.std.specs.Ordering.{eq_by_cmp}
 use Rattle.std.specs.Int.{from_be_bytes, w32}

@@ -1,20 +1,18 @@
 -- The row of a key in a leaf.
-use Rattle.std.proofs.Common.{◌≡◌, ◌≢◌, ℕ, zero, suc, ◌+◌, ◌-◌, ◌*◌, ◌/◌, ◌<◌, ◌≤◌, min, Bool, true, false, not, List, [], ◌∷◌, take, drop, map, length, get_or, Option, Some, None, All, arith, refl, sym, ◌∙◌, ap, subst, inl, inr, ◌⊎◌, if◌then◌else◌, length-take, length-drop, get_or-drop, get_or-take}
+use Rattle.std.proofs.Common.{◌≡◌, ℕ, zero, suc, ◌+◌, ◌-◌, ◌*◌, ◌/◌, ◌<◌, ◌≤◌, min, Bool, true, false, not, List, [], ◌∷◌, take, drop, length, get_or, Some, None, All, arith, refl, sym, ◌∙◌, ap, inl, inr, ◌⊎◌, length-take, length-drop}
 use Rattle.std.proofs.Math.Nat.{div-mul-le_self, lt-div-mul-add}
 use Rattle.std.proofs.lemmas.Bool.{cases_lt}
-use Rattle.std.proofs.lemmas.List.{get_or-map, length-map}
 use Rattle.std.specs.Cmp.{alike_right}
 use Rattle.std.specs.Ordering.{is_gt, is_eq, eq_by_cmp}
 use Rattle.std.specs.declared.cmp.Ordering.{Ordering}
 use Rattle.std.specs.declared.cmp.Ordering.TheVariants.{Less, Equal, Greater}
 use Rattle.page_codec.specs.Page.{most_rows}
 use Rattle.btree_image.specs.Rows.{Layout, IsStored, IsKeyOrder, Ascends, row_with_key}
-use Rattle.btree_image.specs.Image.{shape_of, level_rows}
+use Rattle.btree_image.specs.Image.{shape_of}
 use Rattle.btree_image.specs.Descent.{rank, place_of_key}
-use Rattle.btree_image.specs.Steps.{reaches, IsLastUpTo}
 use Rattle.btree_image.proofs.Covers.{span-zero}
 use Rattle.btree_image.proofs.Rank.{rank-le, at_most-below, greater-from}
-use Rattle.btree_image.proofs.Children.{stands, Stands, stored_at, not_greater}
+use Rattle.btree_image.proofs.Children.{Stands}
 
 module _ {T K : Type 0} (l : Layout T K) (key : K) where
   abbrev is_key : T → Bool

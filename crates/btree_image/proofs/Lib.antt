@@ -11,3 +11,4 @@ pub mod Found
 pub mod Told
 pub mod Trail
 pub mod Loading
+pub mod Lent

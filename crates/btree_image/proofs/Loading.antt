@@ -1,15 +1,15 @@
 -- How an image is written: its numbers fit, and rows are put on a page one after the other.
-use Rattle.std.proofs.Common.{◌≡◌, ℕ, zero, suc, ◌+◌, ◌-◌, ◌*◌, ◌/◌, ◌^◌, ◌<◌, ◌≤◌, min, max, slice_get, Some, List, [], ◌∷◌, ◌++◌, take, drop, map, length, get_or, arith, refl, sym, ◌∙◌, ap, subst, inl, inr, length-drop, get_or-drop}
+use Rattle.std.proofs.Common.{◌≡◌, ℕ, zero, suc, ◌+◌, ◌-◌, ◌*◌, ◌/◌, ◌^◌, ◌<◌, ◌≤◌, min, slice_get, Some, List, [], ◌∷◌, ◌++◌, take, drop, map, length, get_or, arith, refl, sym, ◌∙◌, ap, subst, inl, inr, length-drop, get_or-drop}
 use Rattle.std.proofs.Math.Nat.{mul-le-mul_left}
 use Rattle.std.proofs.lemmas.Bool.{cases_lt, cases_order}
-use Rattle.std.proofs.lemmas.List.{take_more, map-append, length-map}
+use Rattle.std.proofs.lemmas.List.{take_more, map-append}
 use Rattle.std.proofs.lemmas.Grind.{div_ceil_times}
 use Rattle.std.specs.Int.{div_ceil}
-use Rattle.page_codec.specs.Page.{row_width, most_rows, kind_of, row_count, page_of, AllOfWidth, ShowsRows}
+use Rattle.page_codec.specs.Page.{most_rows, kind_of, row_count, page_of, AllOfWidth}
 use Rattle.page_codec.specs.Laws.{row_count-page_of}
-use Rattle.btree_image.specs.Shape.{Shape, level_size, level_start, span, IsRoot, IsPlace}
+use Rattle.btree_image.specs.Shape.{Shape, level_size, level_start, span, IsPlace}
 use Rattle.btree_image.specs.Image.{numbers, shape_of}
-use Rattle.btree_image.proofs.Sizes.{level_start-zero, level_start-next, level_size-next}
+use Rattle.btree_image.proofs.Sizes.{level_start-zero}
 use Rattle.btree_image.proofs.Covers.{level_size-zero, level_size-suc, span-zero}
 use Rattle.btree_image.proofs.Children.{child_has_row}
 use Rattle.btree_image.proofs.Told.{rows_above}
@@ -34,7 +34,7 @@ few_pages s b (suc level) =
     let h = half (level_size s level) s.per_inner b in
     omega arith
 
-few_leaves : (s : Shape) → 52 ≤ s.per_leaf → s.rows < 2 ^ 32 → level_size s 0 ≤ 82595526
+pub few_leaves : (s : Shape) → 52 ≤ s.per_leaf → s.rows < 2 ^ 32 → level_size s 0 ≤ 82595526
 few_leaves s a h =
     let size = level_size-zero s in
     let times = (div_ceil_times s.rows s.per_leaf (omega arith)).1 in

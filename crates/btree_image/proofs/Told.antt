@@ -1,5 +1,5 @@
 -- What a page of a shown tree tells a reader.
-use Rattle.std.proofs.Common.{◌≡◌, ℕ, zero, suc, ◌+◌, ◌-◌, ◌*◌, ◌/◌, ◌^◌, ◌<◌, ◌≤◌, min, Bool, true, false, Option, Some, None, List, [], take, drop, map, get_or, length, All, inl, inr, arith, refl, sym, ◌∙◌, ap, subst, get_or-take, get_or-drop, length-take, length-drop}
+use Rattle.std.proofs.Common.{◌≡◌, ℕ, suc, ◌+◌, ◌-◌, ◌*◌, ◌/◌, ◌^◌, ◌<◌, ◌≤◌, min, true, Option, Some, None, List, [], take, drop, map, get_or, length, All, inl, inr, arith, sym, ◌∙◌, ap, subst, get_or-take, get_or-drop}
 use Rattle.std.specs.Prelude.{slice_index_or, not}
 use Rattle.std.specs.Ordering.{is_gt, eq_by_cmp}
 use Rattle.std.specs.declared.cmp.Ordering.TheVariants.{Greater}
@@ -8,7 +8,7 @@ use Rattle.std.proofs.lemmas.List.{length-map, get_or-map}
 use Rattle.std.proofs.lemmas.List.Elements.{All-take, All-drop}
 use Rattle.std.proofs.lemmas.Grind.{div_ceil_times}
 use Rattle.std.proofs.lemmas.Bool.{cases_lt, cases_Bool}
-use Rattle.std.proofs.Math.Nat.{div-mul-le_self, mul-le-mul_left}
+use Rattle.std.proofs.Math.Nat.{div-mul-le_self}
 use Rattle.dev_model.specs.Story.{WhereTold}
 use Rattle.page_codec.specs.Page.{most_rows, rows_on, row_count, ShowsRows}
 use Rattle.btree_image.specs.Shape.{level_size, level_start, IsPlace}
@@ -17,7 +17,7 @@ use Rattle.btree_image.specs.Image.{shape_of, level_rows, level_kind, IsList, Sh
 use Rattle.btree_image.specs.Descent.{rank, place_of_key}
 use Rattle.btree_image.specs.Damage.{AllReadable, IsTreePage, IsDamaged}
 use Rattle.page_codec.specs.declared.faults.PageFault.TheVariants.{Damaged}
-use Rattle.btree_image.specs.Steps.{reaches, IsLastUpTo, row_at}
+use Rattle.btree_image.specs.Steps.{IsLastUpTo, row_at}
 use Rattle.btree_image.proofs.OnPage.{length-rows_on}
 use Rattle.btree_image.proofs.Numbers.{length-numbers}
 use Rattle.btree_image.proofs.Rank.{rank-le, at_most-below, greater-from}

@@ -1,5 +1,5 @@
 -- How many rows a page has room for, for each kind.
-use Rattle.std.proofs.Common.{◌≡◌, ℕ, zero, suc, ◌+◌, ◌*◌, ◌/◌, ◌<◌, ◌≤◌, arith, lit≤}
+use Rattle.std.proofs.Common.{ℕ, zero, suc, ◌/◌, ◌<◌, ◌≤◌, arith, lit≤}
 use Rattle.page_codec.specs.Page.{row_width, most_rows, IsKind}
 use Rattle.btree_image.specs.Rows.{Layout, AreKinds}
 use Rattle.btree_image.proofs.Covers.{up_to_quotient}

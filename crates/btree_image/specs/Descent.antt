@@ -1,6 +1,6 @@
 -- The way from the root to the leaf in which a key has its place: in each inner page to the last child whose key is at most
 -- that key, or to the first child.
-use Rattle.std.specs.Prelude.{ℕ, zero, suc, ◌-◌, ◌/◌, Bool, not, List, [], ◌∷◌, length}
+use Rattle.std.specs.Prelude.{ℕ, zero, suc, ◌-◌, ◌/◌, not, List, [], ◌∷◌, length}
 use Rattle.std.specs.List.{prefix_len}
 use Rattle.std.specs.Ordering.{is_gt}
 use Rattle.btree_image.specs.Shape.{span}

@@ -1,5 +1,5 @@
 -- The image of a list of rows: its tree, as rows on pages.
-use Rattle.std.specs.Prelude.{◌≡◌, ℕ, zero, suc, ◌+◌, ◌*◌, ◌<◌, List, [], ◌∷◌, ◌++◌, length, take, drop, map, slice_get, All, Bool, IsTrue, Option, Some}
+use Rattle.std.specs.Prelude.{◌≡◌, ℕ, zero, suc, ◌+◌, ◌*◌, List, [], ◌∷◌, ◌++◌, length, take, drop, map, slice_get, All, Bool, IsTrue, Option, Some}
 use Rattle.std.specs.Int.{to_be_bytes, w32}
 use Rattle.std.specs.Option.{option_map_or}
 use Rattle.page_codec.specs.Page.{page_of, most_rows, ShowsRows}

@@ -6,3 +6,4 @@ pub mod Visited
 pub mod Damage
 pub mod Asked
 pub mod Steps
+pub mod TestRows

@@ -1,12 +1,9 @@
 -- The pages and the rows of a scan: filters of all pages and of all rows.
-use Rattle.std.specs.Prelude.{◌≡◌, ℕ, zero, suc, ◌+◌, ◌*◌, Bool, not, ◌&&◌, false, List, [], ◌∷◌, ◌++◌, map, filter, length, slice_get, Option, Some, None, AllPairs, All, true}
+use Rattle.std.specs.Prelude.{◌≡◌, Bool, not, ◌&&◌, false, List, Option, Some, None, AllPairs, All, true}
 use Rattle.std.specs.List.{list_any}
 use Rattle.std.specs.Ordering.{is_gt, is_lt}
-use Rattle.std.specs.declared.cmp.Ordering.{Ordering}
 use Rattle.std.specs.declared.cmp.Ordering.TheVariants.{Less}
-use Rattle.btree_image.specs.Shape.{span, level_size}
 use Rattle.btree_image.specs.Rows.{Layout}
-use Rattle.btree_image.specs.Image.{shape_of, page_number, numbers}
 
 module _ {T K : Type 0} (l : Layout T K) where
   -- a range begins before a key, if there is one

@@ -7,6 +7,8 @@ mod in_page;
 mod levels;
 mod load;
 mod rows;
+#[cfg(test)]
+mod tests;
 
 pub use descend::find;
 pub use load::{load_page, pages_for};

@@ -1,10 +1,9 @@
-use Rattle.std.proofs.Common.{◌≡◌, ℕ, suc, ◌-◌, ◌+◌, ◌<◌, [], ◌∷◌, ◌++◌, All, arith, refl, sym, ◌∙◌, subst}
+use Rattle.std.proofs.Common.{◌≡◌, ℕ, suc, ◌-◌, ◌<◌, [], ◌∷◌, ◌++◌, All, arith, refl, sym, ◌∙◌, subst}
 use Rattle.std.specs.Prelude.{IsTrue}
 use Rattle.std.proofs.lemmas.List.Elements.{All-append}
 use Rattle.btree_image.specs.Shape.{IsPlace}
-use Rattle.btree_image.specs.Image.{shape_of, AreLent, page_number, IsShown}
+use Rattle.btree_image.specs.Image.{shape_of, page_number, IsShown}
 use Rattle.btree_image.specs.Descent.{place_of_key, descent}
-use Rattle.btree_image.specs.Asked.{given}
 use Rattle.btree_image.proofs.Widths.{leaf_room, inner_room}
 use Rattle.btree_image.proofs.Told.{place_next, rows_above}
 use Rattle.btree_image.proofs.Trail.{went-then, went-err, path_next, path_last, path_first, root_place, goes-by, given-append}

@@ -1,4 +1,4 @@
-use Rattle.std.proofs.Common.{◌≡◌, ℕ, ◌≤◌, Some, List, ◌++◌, All}
+use Rattle.std.proofs.Common.{◌≡◌, ℕ, ◌≤◌, List, ◌++◌, All}
 use Rattle.std.specs.Prelude.{IsTrue}
 use Rattle.btree_image.specs.Shape.{IsRoot, IsPlace}
 use Rattle.btree_image.specs.Image.{shape_of, IsShown}

@@ -1,9 +1,7 @@
-use Rattle.std.proofs.Common.{◌≡◌, ℕ, suc, ◌+◌, ◌<◌, ◌^◌, arith, sym, subst, ◌∙◌, Some, None, List}
+use Rattle.std.proofs.Common.{◌≡◌, suc, ◌+◌, ◌<◌, ◌^◌, arith, sym, ◌∙◌, Some, None}
 use Rattle.std.proofs.Math.Numerals.{add-one}
-use Rattle.dev_model.specs.Story.{WhereTold}
-use Rattle.page_codec.specs.declared.faults.PageFault.TheVariants.{Failed, Damaged}
 use Rattle.btree_image.specs.Shape.{level_start}
-use Rattle.btree_image.specs.Image.{shape_of, page_number}
+use Rattle.btree_image.specs.Image.{shape_of}
 use Rattle.btree_image.specs.Descent.{place_of_key}
 use Rattle.btree_image.proofs.Widths.{leaf_room, inner_room}
 use Rattle.btree_image.proofs.Told.{place-inside, shown_read, place_next}

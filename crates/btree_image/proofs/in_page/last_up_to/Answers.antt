@@ -1,4 +1,4 @@
-use Rattle.std.proofs.Common.{arith, ◌≡◌, ◌+◌, ◌-◌, ◌/◌, ◌<◌, sym, ◌∙◌, length}
+use Rattle.std.proofs.Common.{arith, ◌+◌, ◌-◌, ◌/◌, sym, ◌∙◌}
 use Rattle.page_codec.specs.Page.{rows_on}
 use Rattle.btree_image.proofs.OnPage.{length-rows_on}
 use Rattle.btree_image.proofs.Halving.{at_or_behind, before_it}

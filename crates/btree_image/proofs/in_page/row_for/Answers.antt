@@ -1,6 +1,6 @@
-use Rattle.std.proofs.Common.{◌≡◌, ◌<◌, [], arith, sym, ◌∙◌, ap, length, true, false, List, ℕ, None}
+use Rattle.std.proofs.Common.{[], arith, sym, ◌∙◌, ap}
 use Rattle.std.specs.Prelude.{slice_index_or}
-use Rattle.page_codec.specs.Page.{rows_on, row_count, IsPage}
+use Rattle.page_codec.specs.Page.{rows_on}
 use Rattle.btree_image.specs.Steps.{row_at}
 use Rattle.btree_image.proofs.OnPage.{length-rows_on}
 use Rattle.btree_image.proofs.Found.{row_at-other, row_at-same}

@@ -1,16 +1,13 @@
-use Rattle.std.proofs.Common.{arith, ◌≡◌, ℕ, zero, suc, ◌+◌, ◌-◌, ◌*◌, ◌<◌, ◌≤◌, ◌^◌, ◌++◌, ◌∷◌, [], ◌∙◌, sym, ap, subst, length, map, refl, min, List, inl, inr, slice_get, Some}
-use Rattle.std.proofs.lemmas.Bool.{cases_lt}
+use Rattle.std.proofs.Common.{arith, ◌≡◌, suc, ◌+◌, ◌-◌, ◌*◌, ◌<◌, ◌≤◌, ◌++◌, ◌∷◌, [], ◌∙◌, sym, ap, subst, length, map, min, slice_get, Some}
 use Rattle.std.proofs.lemmas.List.{length-map}
 use Rattle.std.proofs.Math.Numerals.{add-one}
 use Rattle.std.specs.Int.{to_be_bytes, w32}
-use Rattle.page_codec.specs.Page.{row_width, most_rows, kind_of, row_count, page_of, AllOfWidth, ShowsRows, IsKind}
+use Rattle.page_codec.specs.Page.{row_width, most_rows, kind_of, row_count, page_of, AllOfWidth, ShowsRows}
 use Rattle.page_codec.specs.Laws.{ShowsRows-page_of}
-use Rattle.btree_image.specs.Shape.{level_size, level_start, span}
-use Rattle.btree_image.specs.Image.{shape_of, level_rows, child_row, numbers, key_bytes_at, children_at}
+use Rattle.btree_image.specs.Shape.{level_size, span}
+use Rattle.btree_image.specs.Image.{shape_of, level_rows, child_row, numbers, children_at}
 use Rattle.btree_image.proofs.Widths.{most_rows-least, leaf_room, inner_room}
 use Rattle.btree_image.proofs.Numbers.{length-numbers, children_at-numbers}
-use Rattle.btree_image.proofs.Children.{child_has_row}
-use Rattle.btree_image.proofs.Told.{rows_above}
 use Rattle.btree_image.proofs.Loading.{kind_of-page_of, wide-snoc, one_more_number, room, pages_fit, page_begins, get_at, first_row}
 use Rattle.btree_image.proofs.load.load_inner.Goals as goal
 

@@ -1,4 +1,4 @@
-use Rattle.std.proofs.Common.{◌≡◌, ◌-◌, ◌*◌, suc, map}
+use Rattle.std.proofs.Common.{◌≡◌, ◌-◌, suc, map}
 use Rattle.page_codec.specs.Page.{page_of, row_width, AllOfWidth}
 use Rattle.btree_image.specs.Image.{child_row, numbers}
 use Rattle.btree_image.proofs.load.load_inner.Given as goal

@@ -1,8 +1,7 @@
-use Rattle.std.proofs.Common.{arith, ◌≡◌, ℕ, ◌+◌, ◌-◌, ◌*◌, ◌<◌, ◌≤◌, ◌^◌, ◌++◌, ◌∷◌, [], ◌∙◌, sym, ap, subst, length, take, drop, map, refl, length-take, length-drop, min, List}
-use Rattle.std.proofs.Math.Nat.{mul-le-mul_left}
+use Rattle.std.proofs.Common.{arith, ◌≡◌, ◌-◌, ◌*◌, ◌≤◌, ◌++◌, ◌∷◌, [], ◌∙◌, sym, ap, subst, length, take, drop, map, length-take, length-drop, min}
 use Rattle.std.proofs.lemmas.List.{take_at, length-map}
-use Rattle.page_codec.specs.Page.{row_width, most_rows, kind_of, row_count, page_of, AllOfWidth, ShowsRows, IsKind}
-use Rattle.page_codec.specs.Laws.{row_count-page_of, ShowsRows-page_of}
+use Rattle.page_codec.specs.Page.{row_width, most_rows, kind_of, page_of, AllOfWidth, ShowsRows, IsKind}
+use Rattle.page_codec.specs.Laws.{ShowsRows-page_of}
 use Rattle.btree_image.specs.Image.{shape_of, level_rows}
 use Rattle.btree_image.proofs.Widths.{leaf_room, inner_room}
 use Rattle.btree_image.proofs.Loading.{kind_of-page_of, wide-snoc, one_more_row, all_rows, page_within, room}

@@ -1,4 +1,4 @@
-use Rattle.std.proofs.Common.{◌≡◌, ◌-◌, ◌*◌, map, take, drop}
+use Rattle.std.proofs.Common.{◌≡◌, ◌-◌, map, take, drop}
 use Rattle.page_codec.specs.Page.{page_of, row_width, AllOfWidth}
 use Rattle.btree_image.proofs.load.load_leaf.Given as goal
 

@@ -1,6 +1,6 @@
-use Rattle.std.proofs.Common.{arith, ◌≤◌}
+use Rattle.std.proofs.Common.{arith}
 use Rattle.btree_image.specs.Image.{shape_of}
-use Rattle.btree_image.proofs.Widths.{most_rows-least, inner_kind, inner_room}
+use Rattle.btree_image.proofs.Widths.{most_rows-least, inner_room}
 use Rattle.btree_image.proofs.Loading.{pages_fit}
 use Rattle.btree_image.proofs.load.pages_for.Goals as goal
 

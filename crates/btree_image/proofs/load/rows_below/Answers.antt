@@ -1,10 +1,10 @@
-use Rattle.std.proofs.Common.{arith, ◌≡◌, ◌+◌, ◌*◌, ◌<◌, ◌≤◌, ◌^◌, ◌∙◌, sym, ap, subst}
+use Rattle.std.proofs.Common.{arith, ◌≡◌, ◌*◌, ◌<◌, ◌≤◌, ◌^◌, ◌∙◌, sym, ap}
 use Rattle.std.proofs.Math.Nat.{mul-le-mul_left}
 use Rattle.std.proofs.Math.Numerals.{add-one}
 use Rattle.btree_image.specs.Shape.{span}
 use Rattle.btree_image.specs.Image.{shape_of}
 use Rattle.btree_image.proofs.Widths.{leaf_room, inner_room}
-use Rattle.btree_image.proofs.Covers.{span-next, span-zero}
+use Rattle.btree_image.proofs.Covers.{span-next}
 use Rattle.btree_image.proofs.Children.{child_has_row}
 use Rattle.btree_image.proofs.load.rows_below.Goals as goal
 

@@ -1,4 +1,4 @@
-use Rattle.std.proofs.Common.{arith, subst, ◌≤◌}
+use Rattle.std.proofs.Common.{arith}
 use Rattle.btree_image.specs.Image.{shape_of}
 use Rattle.btree_image.proofs.Sizes.{level_start-zero, level_start-next}
 use Rattle.btree_image.proofs.load.spot_of.Goals as goal
