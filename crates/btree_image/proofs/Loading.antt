@@ -7,7 +7,7 @@ use Rattle.std.proofs.lemmas.Grind.{div_ceil_times}
 use Rattle.std.specs.Int.{div_ceil}
 use Rattle.page_codec.specs.Page.{most_rows, kind_of, row_count, page_of, AllOfWidth}
 use Rattle.page_codec.specs.Laws.{row_count-page_of}
-use Rattle.btree_image.specs.Shape.{Shape, level_size, level_start, span, IsPlace}
+use Rattle.btree_image.specs.Shape.{Shape, level_size, level_start, span, IsPlace, IsRoot}
 use Rattle.btree_image.specs.Image.{numbers, shape_of}
 use Rattle.btree_image.proofs.Sizes.{level_start-zero}
 use Rattle.btree_image.proofs.Covers.{level_size-zero, level_size-suc, span-zero}
@@ -73,6 +73,20 @@ start-later s low (suc more) =
 
 pub start-after : (s : Shape) (low high : ℕ) → low < high → level_start s low + level_size s low ≤ level_start s high
 start-after s low high h = subst (λ n. level_start s low + level_size s low ≤ level_start s n) (omega arith) (start-later s low (high - suc low))
+
+-- no page of an image stands behind its root
+pub before_root : (s : Shape) (root level at : ℕ) → IsRoot s root → IsPlace s level at → level_start s level + at ≤ level_start s root
+before_root s root level at at_root place = elim (cases_order level root) [
+  | inl same ↦ (
+      let inside : at < level_size s root = subst (λ n. at < level_size s n) same place.inside in
+      let one = at_root.alone in
+      let starts = ap (level_start s) same in
+      omega arith)
+  | inr apart ↦ elim apart [
+    | inl lt ↦ (let after = start-after s level root lt in let inside = place.inside in omega arith)
+    | inr gt ↦ absurd (let more = place.up_to_root root gt in let one = at_root.alone in omega arith)
+  ]
+]
 
 -- two places with one number are one
 pub same_level : (s : Shape) (a x b y : ℕ) → IsPlace s a x → IsPlace s b y → level_start s a + x ≡ level_start s b + y → a ≡ b

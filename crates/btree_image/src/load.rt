@@ -13,9 +13,12 @@ use page_codec::{PAGE_BYTES, new_page, put_row, width_of};
 // The most bytes of a row of any kind.
 const MOST_WIDTH: usize = 78;
 
-/// How many pages the image of so many rows has.
+/// How many pages the image of so many rows has: one more than stand before its root, which is the last. Each page of the
+/// image has a number below it.
 pub fn pages_for<T: TreeRow>(rows: u32) -> u32
-    ensures { (root : ℕ) → IsRoot (shape_of T.layout rows) root → result ≡ level_start (shape_of T.layout rows) root + 1 }
+    ensures root { (root : ℕ) × IsRoot (shape_of T.layout rows) root × (result ≡ level_start (shape_of T.layout rows) root + 1) }
+    ensures last { (root : ℕ) → IsRoot (shape_of T.layout rows) root → result ≡ level_start (shape_of T.layout rows) root + 1 }
+    ensures all { (level at : ℕ) → IsPlace (shape_of T.layout rows) level at → level_start (shape_of T.layout rows) level + at < result }
 {
     let root = level_at::<T>(rows, root_level::<T>(rows));
     (root.start + 1) as u32

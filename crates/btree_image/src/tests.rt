@@ -202,3 +202,62 @@ fn rows_are_found_on_the_way_of_the_model(rt: HostRuntime) -> Result<(), Fail> {
     }
     Ok(())
 }
+
+fn spoil(pages: &mut Memory, page: usize, at: usize, byte: u8) {
+    if page < pages.pages.len() && at < PAGE_BYTES {
+        let mut bytes = pages.pages[page];
+        bytes[at] = byte;
+        pages.pages[page] = bytes;
+    }
+}
+
+#[test]
+fn a_reader_tests_the_header_and_what_it_uses(rt: HostRuntime) -> Result<(), Fail> {
+    // Of 53 rows: a page, a byte of it and its new value, a key, and the answer.
+    let table = [
+        (2, 0, 1, 1, Err(PageFault::Damaged { page: 2 })),
+        (2, 1, 0, 1, Err(PageFault::Damaged { page: 2 })),
+        (2, 3, 0, 1, Err(PageFault::Damaged { page: 2 })),
+        (2, 4, 1, 1, Err(PageFault::Damaged { page: 2 })),
+        (2, 19, 2, 1, Err(PageFault::Damaged { page: 2 })),
+        (2, 19, 2, 157, Ok(Some(157))),
+        (2, 31, 2, 157, Err(PageFault::Damaged { page: 2 })),
+        (2, 31, 2, 1, Ok(Some(1))),
+        (0, 0, 2, 1, Err(PageFault::Damaged { page: 0 })),
+        (0, 3, 53, 1, Err(PageFault::Damaged { page: 0 })),
+        (0, 16, 1, 1, Err(PageFault::Damaged { page: 0 })),
+        (0, 16, 1, 4, Ok(Some(4))),
+        (0, 4095, 9, 1, Ok(Some(1))),
+        (1, 3, 0, 157, Ok(None)),
+        (1, 7, 1, 157, Err(PageFault::Damaged { page: 1 })),
+    ];
+    let list = numbers(rt.alloc(), 53)?;
+    for (page, at, byte, key, want) in table {
+        let mut pages = image(rt.alloc(), &list)?;
+        spoil(&mut pages, page, at, byte);
+        assert_eq!(rt;
+            look(&mut pages, 53, key),
+            want,
+            "byte {at} of page {page} is {byte}"
+        );
+    }
+    Ok(())
+}
+
+#[test]
+fn a_page_that_is_not_given_ends_a_descent(rt: HostRuntime) -> Result<(), Fail> {
+    let list = numbers(rt.alloc(), 53)?;
+    let table = [
+        (2, 157, Err(PageFault::Failed), [2, 0, 0, 0], 1),
+        (1, 157, Err(PageFault::Failed), [2, 1, 0, 0], 2),
+        (0, 157, Ok(Some(157)), [2, 1, 0, 0], 2),
+    ];
+    for (refused, key, want, asked, count) in table {
+        let mut pages = image(rt.alloc(), &list)?;
+        pages.refused = refused;
+        assert_eq!(rt; look(&mut pages, 53, key), want, "page {refused}");
+        assert_eq!(rt; pages.asked, asked, "page {refused}");
+        assert_eq!(rt; pages.count, count, "page {refused}");
+    }
+    Ok(())
+}
