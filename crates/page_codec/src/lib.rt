@@ -1,11 +1,13 @@
 //! Pages of fixed rows: what stands at which byte, how rows are put on a page, and how they are read where they stand.
 #![tactic(auto)]
 
+mod faults;
 mod kinds;
 mod pages;
 #[cfg(test)]
 mod tests;
 
+pub use faults::PageFault;
 pub use kinds::{
     DELETED_INNER, DELETED_LEAF, DHB_INNER, DHB_LEAF, DHVB_INNER, DHVB_LEAF, DICTIONARY_INNER,
     DICTIONARY_LEAF, POSTINGS, PRIMARY_INNER, PRIMARY_LEAF, RTREE_INNER, RTREE_LEAF, SHB_INNER,

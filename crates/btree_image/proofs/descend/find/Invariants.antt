@@ -1,0 +1,27 @@
+use Rattle.std.proofs.Common.{◌≡◌, ℕ, ◌≤◌, List, ◌++◌, All}
+use Rattle.std.specs.Prelude.{IsTrue}
+use Rattle.btree_image.specs.Shape.{IsRoot, IsPlace}
+use Rattle.btree_image.specs.Image.{shape_of, IsShown}
+use Rattle.btree_image.specs.Descent.{place_of_key, descent}
+use Rattle.btree_image.specs.Asked.{given}
+use Rattle.btree_image.proofs.descend.find.Given as goal
+
+abbrev pub invariant-loop-level : goal.invariant-loop-level
+invariant-loop-level g l = record {
+  place : IsPlace (shape_of g.T.TreeRow.layout l.tree.rows) l.level l.at;
+  low : l.level ≤ 33;
+  same_lent : g.P.Pages.lent l.pages ≡ g.P.Pages.lent l.initial.pages;
+  same_contents : g.P.Pages.contents l.pages ≡ g.P.Pages.contents l.initial.pages;
+  later : g.P.Pages.fault_count l.initial.pages ≤ g.P.Pages.fault_count l.pages;
+  seen : List ℕ;
+  asked : g.P.Pages.asked l.initial.pages l.pages (given seen);
+  are_lent : All (λ page. IsTrue (g.P.Pages.lent l.initial.pages page)) seen;
+  told : (list : List g.row.T.Denot) → IsShown g.T.TreeRow.layout (g.P.Pages.contents l.initial.pages) l.tree.first l.tree.rows list
+      → l.at ≡ place_of_key g.T.TreeRow.layout list l.key l.level;
+  way : (list : List g.row.T.Denot) (root : ℕ) → IsShown g.T.TreeRow.layout (g.P.Pages.contents l.initial.pages) l.tree.first l.tree.rows list
+      → IsRoot (shape_of g.T.TreeRow.layout l.tree.rows) root
+      → seen ++ descent g.T.TreeRow.layout l.tree.first list l.key l.level ≡ descent g.T.TreeRow.layout l.tree.first list l.key root;
+}
+
+abbrev pub decreases-loop-level : goal.decreases-loop-level
+decreases-loop-level g l = l.level

@@ -1,0 +1,43 @@
+use Rattle.std.proofs.Common.{◌≡◌, suc, ◌+◌, ◌<◌, ◌^◌, arith, sym, ◌∙◌, Some, None}
+use Rattle.std.proofs.Math.Numerals.{add-one}
+use Rattle.btree_image.specs.Shape.{level_start}
+use Rattle.btree_image.specs.Image.{shape_of}
+use Rattle.btree_image.specs.Descent.{place_of_key}
+use Rattle.btree_image.proofs.Widths.{leaf_room, inner_room}
+use Rattle.btree_image.proofs.Told.{place-inside, shown_read, place_next}
+use Rattle.btree_image.proofs.Trail.{went-failed}
+use Rattle.btree_image.proofs.descend.step.Goals as goal
+
+pub returns-in-Err-clause-went : goal.returns-in-Err-clause-went
+returns-in-Err-clause-went g c =
+    went-failed (g.P.Pages.asked) (g.met.P.Pages.asked_then) (g.P.Pages.lent c.args.pages.now) _ _ _ (rw add-one at c.in-Err.ensures.asked) (c.requires.lent (suc c.args.below) c.args.at c.requires.place)
+
+pub returns-in-Some-clause-told : goal.returns-in-Some-clause-told
+returns-in-Some-clause-told g c list shown some e =
+    let l = g.T.TreeRow.layout in
+    let k = g.met.T.TreeRow.kinds in
+    let a = leaf_room l _ _ _ k in
+    let b = inner_room l _ _ _ k in
+    let inside = place-inside l k.key_order a b c.args.tree.rows list shown.is c.args.key.now c.args.below in
+    let next = place_next l c.args.tree.rows c.args.below c.args.at _ c.requires.place inside in
+    let n = g.met.P.Pages.lent_fits c.args.pages.now _ (c.requires.lent c.args.below (place_of_key l list c.args.key.now c.args.below) next) in
+    let fits : level_start (shape_of l c.args.tree.rows) c.args.below + place_of_key l list c.args.key.now c.args.below < 2 ^ 32 = omega (arith, n) in
+    let shows = shown_read l list c.args.tree.first c.args.tree.rows _ shown c.read_place.new.buf (suc c.args.below) c.args.at c.requires.place (rw add-one at c.in-Ok.ensures.bytes) in
+    let child = c.place_from.ensures.told list c.args.at shown.is some e fits shows in
+    let both : Some c.in-Some.place ≡ Some (place_of_key l list c.args.key.now c.args.below) = sym c.in-Some.is ∙ child in
+    cc both
+
+pub returns-in-None-clause-told : goal.returns-in-None-clause-told
+returns-in-None-clause-told g c list shown some e =
+    let l = g.T.TreeRow.layout in
+    let k = g.met.T.TreeRow.kinds in
+    let a = leaf_room l _ _ _ k in
+    let b = inner_room l _ _ _ k in
+    let inside = place-inside l k.key_order a b c.args.tree.rows list shown.is c.args.key.now c.args.below in
+    let next = place_next l c.args.tree.rows c.args.below c.args.at _ c.requires.place inside in
+    let n = g.met.P.Pages.lent_fits c.args.pages.now _ (c.requires.lent c.args.below (place_of_key l list c.args.key.now c.args.below) next) in
+    let fits : level_start (shape_of l c.args.tree.rows) c.args.below + place_of_key l list c.args.key.now c.args.below < 2 ^ 32 = omega (arith, n) in
+    let shows = shown_read l list c.args.tree.first c.args.tree.rows _ shown c.read_place.new.buf (suc c.args.below) c.args.at c.requires.place (rw add-one at c.in-Ok.ensures.bytes) in
+    let child = c.place_from.ensures.told list c.args.at shown.is some e fits shows in
+    let both : None ≡ Some (place_of_key l list c.args.key.now c.args.below) = sym c.in-None.is ∙ child in
+    cc both

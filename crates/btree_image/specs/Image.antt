@@ -1,0 +1,71 @@
+-- The image of a list of rows: its tree, as rows on pages.
+use Rattle.std.specs.Prelude.{◌≡◌, ℕ, zero, suc, ◌+◌, ◌*◌, List, [], ◌∷◌, ◌++◌, length, take, drop, map, slice_get, All, Bool, IsTrue, Option, Some}
+use Rattle.std.specs.Int.{to_be_bytes, w32}
+use Rattle.std.specs.Option.{option_map_or}
+use Rattle.page_codec.specs.Page.{page_of, most_rows, ShowsRows}
+use Rattle.btree_image.specs.Shape.{Shape, level_size, level_start, span, IsPlace}
+use Rattle.btree_image.specs.Rows.{Layout, IsStored, Ascends}
+
+-- the numbers from one on
+unfoldable pub numbers : (from count : ℕ) → List ℕ
+numbers from zero = []
+numbers from (suc n) = from ∷ numbers (suc from) n
+
+-- the places of the children of a page, in a level of that size
+abbrev pub children_at : (size many at : ℕ) → List ℕ
+children_at size many at = take many (drop (at * many) (numbers 0 size))
+
+module _ {T K : Type 0} (l : Layout T K) where
+  -- a tree of that many rows
+  abbrev pub shape_of : ℕ → Shape
+  shape_of rows = record { per_leaf = most_rows l.leaf; per_inner = most_rows l.inner; rows = rows }
+
+  module _ (rows : List T) where
+    -- the bytes of the key of the row at a place of the list
+    abbrev pub key_bytes_at : ℕ → List ℕ
+    key_bytes_at i = option_map_or (λ row. l.key_to_bytes (l.key_of row)) (slice_get rows i) []
+
+    -- an inner row: the least key of a child, and its page
+    abbrev pub child_row : (level child : ℕ) → List ℕ
+    child_row level child =
+        key_bytes_at (child * span (shape_of (length rows)) level) ++ to_be_bytes w32 (level_start (shape_of (length rows)) level + child)
+
+    -- the rows, as bytes, of the page at a place of a level
+    unfoldable pub level_rows : (level at : ℕ) → List (List ℕ)
+    level_rows zero at = map l.to_bytes (take (most_rows l.leaf) (drop (at * most_rows l.leaf) rows))
+    level_rows (suc level) at = map (child_row level) (children_at (level_size (shape_of (length rows)) level) (most_rows l.inner) at)
+
+  -- the kind of the pages of a level
+  abbrev pub level_kind : ℕ → ℕ
+  level_kind zero = l.leaf
+  level_kind (suc level) = l.inner
+
+  -- the page at a place of a level, as it is written
+  abbrev pub level_page : List T → (level at : ℕ) → List ℕ
+  level_page rows level at = page_of (level_kind level) level (level_rows rows level at)
+
+-- a list that a tree of that many rows can have
+pub record IsList {T K : Type 0} (l : Layout T K) (rows : ℕ) (list : List T) : Type 0 where
+  pub count : length list ≡ rows
+  pub ascends : Ascends l list
+  pub stored : All (IsStored l) list
+
+-- the pages of a device show the image of a list, from a page on
+abbrev pub ShowsTree : {T K : Type 0} → Layout T K → List T → (first : ℕ) → (ℕ → List ℕ) → Type 0
+ShowsTree l list first contents = (level at : ℕ) → IsPlace (shape_of l (length list)) level at
+    → ShowsRows (level_kind l level) level (level_rows l list level at) (contents (first + (level_start (shape_of l (length list)) level + at)))
+
+-- the number of a page of a tree on its device
+abbrev pub page_number : {T K : Type 0} → Layout T K → (first rows level at : ℕ) → ℕ
+page_number l first rows level at = first + (level_start (shape_of l rows) level + at)
+
+-- each page of a tree is lent
+abbrev pub AreLent : {T K : Type 0} → Layout T K → (ℕ → Bool) → (first rows : ℕ) → Type 0
+AreLent l lent first rows = (level at : ℕ) → IsPlace (shape_of l rows) level at → IsTrue (lent (page_number l first rows level at))
+
+-- the pages that are lent tell their bytes, and these show the image of a list
+pub record IsShown {T K : Type 0} (l : Layout T K) (contents : Option (ℕ → List ℕ)) (first rows : ℕ) (list : List T) : Type 0 where
+  pub bytes : ℕ → List ℕ
+  pub told : contents ≡ Some bytes
+  pub is : IsList l rows list
+  pub shows : ShowsTree l list first bytes

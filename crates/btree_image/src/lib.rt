@@ -1,0 +1,15 @@
+//! The image of a list of rows as a B+-tree on pages: how it is written page by page, and how rows are found again in pages
+//! that are lent.
+#![tactic(auto)]
+
+mod descend;
+mod in_page;
+mod levels;
+mod load;
+mod rows;
+#[cfg(test)]
+mod tests;
+
+pub use descend::find;
+pub use load::{load_page, pages_for};
+pub use rows::TreeRow;

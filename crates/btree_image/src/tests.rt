@@ -1,0 +1,263 @@
+//! Trees of numbers against a plain model, which lists the rows and the pages of each descent.
+
+ghost use Rattle.std.specs.Prelude.{◌≡◌, ◌<◌, ◌^◌, ℕ, length, IfOk};
+ghost use Rattle.std.specs.Int.{from_be_bytes, w64};
+
+use crate::{TreeRow, find, load_page, pages_for};
+use dev_model::{Failed, Pages};
+use page_codec::{PAGE_BYTES, PageFault, TreeRef};
+use std::alloc::{AllocError, Global};
+use std::cmp::Ordering;
+use std::test::Fail;
+
+fn number(bytes: &[u8]) -> u64
+    requires { length bytes.now ≡ 8 }
+    ensures { result ≡ from_be_bytes w64 bytes.now }
+{
+    u64::from_be_bytes([
+        bytes[0], bytes[1], bytes[2], bytes[3], bytes[4], bytes[5], bytes[6], bytes[7],
+    ])
+}
+
+impl TreeRow for u64 {
+    ghost use Rattle.btree_image.specs.TestRows.{number_layout, number_kinds};
+
+    type Key = u64;
+
+    ghost layout = { number_layout };
+
+    ghost LEAF = { 1 };
+
+    ghost INNER = { 2 };
+
+    ghost KEY_WIDTH = { 8 };
+
+    const LEAF: u8 = 1;
+
+    const INNER: u8 = 2;
+
+    const KEY_WIDTH: usize = 8;
+
+    fn row_key(&self) -> u64 {
+        *self
+    }
+
+    fn compare_keys(a: &u64, b: &u64) -> Ordering {
+        a.cmp(b)
+    }
+
+    fn write(&self, out: &mut [u8]) {
+        let key = *self;
+        let [a, b, c, d, e, f, g, h] = key.to_be_bytes();
+        out.copy_from_slice(&[
+            a, b, c, d, e, f, g, h, 0, 0, 0, 0, 0, 0, 0, 0, 0, 0, 0, 0, 0, 0, 0, 0, 0, 0, 0, 0, 0,
+            0, 0, 0, 0, 0, 0, 0, 0, 0, 0, 0, 0, 0, 0, 0, 0, 0, 0, 0, 0, 0, 0, 0, 0, 0, 0, 0, 0, 0,
+            0, 0, 0, 0, 0, 0, 0, 0, 0, 0, 0, 0, 0, 0, 0, 0, 0, 0, 0, 0,
+        ]);
+    }
+
+    fn read(bytes: &[u8]) -> Option<u64> {
+        if bytes[8] == 0 {
+            Some(number(&bytes[..8]))
+        } else {
+            None
+        }
+    }
+
+    fn write_key(key: &u64, out: &mut [u8]) {
+        let key = *key;
+        out.copy_from_slice(&key.to_be_bytes());
+    }
+
+    fn read_key(bytes: &[u8]) -> u64 {
+        number(bytes)
+    }
+
+    ghost kinds = { number_kinds };
+}
+
+// Pages in memory, the first pages that were asked for, and one that is never given.
+#[derive(Drop)]
+struct Memory {
+    pages: Vec<[u8; PAGE_BYTES]>,
+    asked: [u32; 4],
+    count: usize,
+    refused: u32,
+    faults: u64,
+}
+
+impl Pages for Memory {
+    ghost use Rattle.std.specs.Prelude.{None, nat_lt, ◌^◌};
+    ghost use Rattle.btree_image.specs.TestRows.{page_fits};
+
+    ghost lent = { λ pages page. nat_lt page (2 ^ 32) };
+
+    ghost contents = { λ pages. None };
+
+    ghost asked = { λ first second reads. Unit {0} };
+
+    ghost fault_count = { λ pages. pages.faults };
+
+    fn faults(&self) -> u64 {
+        self.faults
+    }
+
+    fn read_page(&mut self, page: u32, buf: &mut [u8; 4096]) -> Result<(), Failed> {
+        if self.count < 4 {
+            self.asked[self.count] = page;
+            self.count += 1;
+        }
+        if page != self.refused && (page as usize) < self.pages.len() {
+            *buf = self.pages[page as usize];
+            Ok(())
+        } else {
+            self.faults = self.faults.saturating_add(1);
+            Err(Failed)
+        }
+    }
+
+    ghost lent_fits = { λ pages page h. page_fits page h };
+
+    ghost asked_none = { λ pages. tt };
+
+    ghost asked_then = { λ first second third xs ys so_far more. tt };
+}
+
+// The image of a list.
+fn image(alloc: Global, list: &[u64]) -> Result<Memory, AllocError>
+    requires { length list.now < 2 ^ 32 }
+{
+    let mut pages = Vec::new(alloc);
+    for n in 0..pages_for::<u64>(list.len() as u32) {
+        let mut page = [9; PAGE_BYTES];
+        load_page(list, n, &mut page);
+        pages.push(page)?;
+    }
+    Ok(Memory {
+        pages,
+        asked: [0; 4],
+        count: 0,
+        refused: u32::MAX,
+        faults: 0,
+    })
+}
+
+// The numbers below 3 * rows that leave 1 when divided by 3.
+fn numbers(alloc: Global, rows: u32) -> Result<Vec<u64>, AllocError>
+    ensures { IfOk result (λ list. length list.items ≡ rows) }
+{
+    let mut list = Vec::new(alloc);
+    for i in 0..rows {
+        list.push(u64::from(i) * 3 + 1)?;
+    }
+    Ok(list)
+}
+
+fn look(pages: &mut Memory, rows: u32, key: u64) -> Result<Option<u64>, PageFault> {
+    pages.count = 0;
+    pages.asked = [0; 4];
+    find::<u64, Memory>(pages, TreeRef { first: 0, rows }, &key)
+}
+
+#[test]
+fn rows_are_found_on_the_way_of_the_model(rt: HostRuntime) -> Result<(), Fail> {
+    // Rows, pages, a key, whether it is there, the pages of its descent, and how many they are.
+    let table = [
+        (0, 1, 0, false, [0, 0, 0], 1),
+        (1, 1, 0, false, [0, 0, 0], 1),
+        (1, 1, 1, true, [0, 0, 0], 1),
+        (1, 1, 2, false, [0, 0, 0], 1),
+        (52, 1, 0, false, [0, 0, 0], 1),
+        (52, 1, 1, true, [0, 0, 0], 1),
+        (52, 1, 154, true, [0, 0, 0], 1),
+        (52, 1, 157, false, [0, 0, 0], 1),
+        (53, 3, 0, false, [2, 0, 0], 2),
+        (53, 3, 1, true, [2, 0, 0], 2),
+        (53, 3, 157, true, [2, 1, 0], 2),
+        (53, 3, 166, false, [2, 1, 0], 2),
+        (17680, 341, 2, false, [340, 0, 0], 2),
+        (17680, 341, 30000, false, [340, 192, 0], 2),
+        (17680, 341, 53038, true, [340, 339, 0], 2),
+        (17681, 344, 0, false, [343, 341, 0], 3),
+        (17681, 344, 157, true, [343, 341, 1], 3),
+        (17681, 344, 53041, true, [343, 342, 340], 3),
+        (17681, 344, 53050, false, [343, 342, 340], 3),
+        (20000, 388, 30000, false, [387, 385, 192], 3),
+        (20000, 388, 59998, true, [387, 386, 384], 3),
+        (20000, 388, 60007, false, [387, 386, 384], 3),
+    ];
+    for (rows, count, key, there, way, steps) in table {
+        let list = numbers(rt.alloc(), rows)?;
+        let mut pages = image(rt.alloc(), &list)?;
+        let [a, b, c] = way;
+        let found = if there { Some(key) } else { None };
+        assert_eq!(rt; pages.pages.len(), count, "{rows} rows");
+        assert_eq!(rt;
+            look(&mut pages, rows, key),
+            Ok(found),
+            "{key} of {rows} rows"
+        );
+        assert_eq!(rt; pages.asked, [a, b, c, 0], "{key} of {rows} rows");
+        assert_eq!(rt; pages.count, steps, "{key} of {rows} rows");
+    }
+    Ok(())
+}
+
+fn spoil(pages: &mut Memory, page: usize, at: usize, byte: u8) {
+    if page < pages.pages.len() && at < PAGE_BYTES {
+        let mut bytes = pages.pages[page];
+        bytes[at] = byte;
+        pages.pages[page] = bytes;
+    }
+}
+
+#[test]
+fn a_reader_tests_the_header_and_what_it_uses(rt: HostRuntime) -> Result<(), Fail> {
+    // Of 53 rows: a page, a byte of it and its new value, a key, and the answer.
+    let table = [
+        (2, 0, 1, 1, Err(PageFault::Damaged { page: 2 })),
+        (2, 1, 0, 1, Err(PageFault::Damaged { page: 2 })),
+        (2, 3, 0, 1, Err(PageFault::Damaged { page: 2 })),
+        (2, 4, 1, 1, Err(PageFault::Damaged { page: 2 })),
+        (2, 19, 2, 1, Err(PageFault::Damaged { page: 2 })),
+        (2, 19, 2, 157, Ok(Some(157))),
+        (2, 31, 2, 157, Err(PageFault::Damaged { page: 2 })),
+        (2, 31, 2, 1, Ok(Some(1))),
+        (0, 0, 2, 1, Err(PageFault::Damaged { page: 0 })),
+        (0, 3, 53, 1, Err(PageFault::Damaged { page: 0 })),
+        (0, 16, 1, 1, Err(PageFault::Damaged { page: 0 })),
+        (0, 16, 1, 4, Ok(Some(4))),
+        (0, 4095, 9, 1, Ok(Some(1))),
+        (1, 3, 0, 157, Ok(None)),
+        (1, 7, 1, 157, Err(PageFault::Damaged { page: 1 })),
+    ];
+    let list = numbers(rt.alloc(), 53)?;
+    for (page, at, byte, key, want) in table {
+        let mut pages = image(rt.alloc(), &list)?;
+        spoil(&mut pages, page, at, byte);
+        assert_eq!(rt;
+            look(&mut pages, 53, key),
+            want,
+            "byte {at} of page {page} is {byte}"
+        );
+    }
+    Ok(())
+}
+
+#[test]
+fn a_page_that_is_not_given_ends_a_descent(rt: HostRuntime) -> Result<(), Fail> {
+    let list = numbers(rt.alloc(), 53)?;
+    let table = [
+        (2, 157, Err(PageFault::Failed), [2, 0, 0, 0], 1),
+        (1, 157, Err(PageFault::Failed), [2, 1, 0, 0], 2),
+        (0, 157, Ok(Some(157)), [2, 1, 0, 0], 2),
+    ];
+    for (refused, key, want, asked, count) in table {
+        let mut pages = image(rt.alloc(), &list)?;
+        pages.refused = refused;
+        assert_eq!(rt; look(&mut pages, 53, key), want, "page {refused}");
+        assert_eq!(rt; pages.asked, asked, "page {refused}");
+        assert_eq!(rt; pages.count, count, "page {refused}");
+    }
+    Ok(())
+}
