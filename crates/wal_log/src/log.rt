@@ -17,9 +17,13 @@ use dev_model::{Device, Failed, write_synced};
 /// The log's end: its newest generation with the records there, the next number, and which headers are open.
 #[derive(Clone, Copy)]
 pub struct Log {
+    /// The newest generation. Its segment is the remainder by 4.
     pub generation: u64,
+    /// The number of the next record.
     pub next_lsn: u64,
+    /// How many records the newest segment has.
     pub records: u64,
+    /// Which segments have an open header.
     pub open_headers: [bool; 4],
 }
 

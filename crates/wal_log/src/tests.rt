@@ -231,7 +231,7 @@ fn each_crash_leaves_whole_records(rt: HostRuntime) -> Result<(), Fail> {
     assert!(rt; clock < 100);
     let mut least = 0;
     for moment in 0..clock + 1 {
-        for torn in [Torn::Old, Torn::New] {
+        for torn in [Torn::Old, Torn::New, Torn::Fill(165), Torn::Front(40)] {
             match read_image(&device, moment, torn, alloc) {
                 Some(Ok(count)) => {
                     assert!(rt; least <= count && count <= 3);
