@@ -25,6 +25,7 @@ impl Policy {
     pub fn new(choice: Choice) -> Self
         requires callable { IsAlwaysCallable choice }
         requires answers { AnswersRanges (λ rows r. post choice rows r) }
+        ensures { result.choice ≡ choice }
     {
         Policy { choice }
     }
