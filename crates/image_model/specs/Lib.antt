@@ -1,0 +1,4 @@
+pub mod Superblock
+pub mod Directory
+pub mod Opening
+pub mod Recovered
