@@ -1,26 +1,36 @@
 -- The plain table's answers.
-use Rattle.std.specs.Prelude.{List, [], ◌∷◌, Option, Some, None}
+use Rattle.std.specs.Prelude.{List, [], ◌∷◌, length, Option, Some, None}
 use Rattle.std.specs.FinMap as map
 use Rattle.table_model.specs.Table.{Table, Place, place_of, rows_of, rows_inside}
-use Rattle.table_model.specs.Commands.{Write, put, Command, write, region, WriteReply, put_new, put_old, Reply, wrote, rows}
+use Rattle.table_model.specs.Commands.{Write, put, del, Command, write, get, count, region, WriteReply, put_new, put_old, del_none, del_old, Reply, wrote, got, counted, rows}
 
 abbrev pub after_write : Table → Write → Table
 after_write t (put row) = map.insert t row.key (place_of row)
+after_write t (del key) = map.remove t key
 
 abbrev pub put_reply : Option Place → WriteReply
 put_reply None = put_new
 put_reply (Some old) = put_old old.point old.note
 
+abbrev pub del_reply : Option Place → WriteReply
+del_reply None = del_none
+del_reply (Some old) = del_old old.point old.note
+
 abbrev pub write_reply : Table → Write → WriteReply
 write_reply t (put row) = put_reply (map.get t row.key)
+write_reply t (del key) = del_reply (map.get t key)
 
 abbrev pub table_after : Table → Command → Table
 table_after t (write w) = after_write t w
+table_after t (get key) = t
+table_after t count = t
 table_after t (region kind r) = t
 
 -- the reply doesn't depend on the index by which a region is asked for
 abbrev pub reply_to : Table → Command → Reply
 reply_to t (write w) = wrote (write_reply t w)
+reply_to t (get key) = got (map.get t key)
+reply_to t count = counted (length (rows_of t))
 reply_to t (region kind r) = rows (rows_inside r (rows_of t))
 
 -- the table after a list of commands

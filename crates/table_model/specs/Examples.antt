@@ -1,10 +1,11 @@
--- Worked examples: two lanes that each put a row and ask for it, in one of their shuffles; and a script
--- of one lane with a refused command. No public contract but that of the examples needs this file.
-use Rattle.std.specs.Prelude.{ℕ, List, [], ◌∷◌, codes}
+-- Worked examples: two lanes that each put a row and ask for it, in one of their shuffles, and then gets, dels and
+-- a count; and a script of one lane with a refused command. No public contract but that of the examples needs this file.
+use Rattle.std.specs.Prelude.{ℕ, List, [], ◌∷◌, Some, None, codes}
 use Rattle.geo_base.specs.declared.points.Row.{Row}
 use Rattle.geo_base.specs.declared.points.IndexKind.TheVariants.{Dhvb}
 use Rattle.table_model.specs.declared.Why.TheVariants.{Memory}
-use Rattle.table_model.specs.Commands.{Command, write, put, region, answered, refused, wrote, rows, put_new, put_old}
+use Rattle.table_model.specs.Table.{place_of}
+use Rattle.table_model.specs.Commands.{Command, write, put, del, get, count, region, answered, refused, wrote, got, counted, rows, put_new, put_old, del_none, del_old}
 use Rattle.table_model.specs.Phases.{Phases}
 use Rattle.table_model.specs.Record.{RunRecord}
 
@@ -21,7 +22,7 @@ abbrev pub shuffled_script : Phases Command
 shuffled_script = record {
   setup = [];
   lanes = (write (put one) ∷ all_points ∷ []) ∷ (write (put two) ∷ all_points ∷ []) ∷ [];
-  after = [];
+  after = get 1 ∷ count ∷ write (del 1) ∷ get 1 ∷ count ∷ write (del 1) ∷ [];
 }
 
 abbrev pub shuffled_record : RunRecord
@@ -29,11 +30,12 @@ shuffled_record = record {
   setup = [];
   lanes = (answered 0 (wrote put_new) ∷ answered 4 (rows (two ∷ [])) ∷ [])
       ∷ (answered 2 (wrote (put_old one.point one.note)) ∷ answered 7 (rows (two ∷ [])) ∷ []) ∷ [];
-  after = [];
+  after = answered 8 (got (Some (place_of two))) ∷ answered 9 (counted 1) ∷ answered 10 (wrote (del_old two.point two.note))
+      ∷ answered 13 (got None) ∷ answered 14 (counted 0) ∷ answered 20 (wrote del_none) ∷ [];
 }
 
 abbrev pub shuffled_text : List ℕ
-shuffled_text = codes "0 1 put new\n1 2 put old 1 1 a\n2 1 region 1\n= 1 2 2 b\n3 2 region 1\n= 1 2 2 b\n"
+shuffled_text = codes "0 1 put new\n1 2 put old 1 1 a\n2 1 region 1\n= 1 2 2 b\n3 2 region 1\n= 1 2 2 b\n4 0 get 2 2 b\n5 0 count 1\n6 0 del old 2 2 b\n7 0 get none\n8 0 count 0\n9 0 del none\n"
 
 -- the second command was refused: it has no place
 abbrev pub refused_script : Phases Command

@@ -3,5 +3,6 @@ pub mod Commands
 pub mod Examples
 pub mod Phases
 pub mod Record
+pub mod Refusals
 pub mod Table
 pub mod Text

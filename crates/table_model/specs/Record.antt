@@ -1,11 +1,11 @@
 -- The record of a run, when it fits a script, the history that it stands for, and its text.
 use Rattle.std.specs.Prelude.{◌≡◌, ℕ, ◌+◌, ◌<◌, List, [], ◌∷◌, ◌++◌, map, All, nat_lt, if◌then◌else◌}
 use Rattle.std.specs.List.{flat_map}
-use Rattle.table_model.specs.declared.Why.TheVariants.{Memory}
 use Rattle.table_model.specs.Table.{Table}
 use Rattle.table_model.specs.Commands.{Command, Reply, Outcome, answered, refused}
 use Rattle.table_model.specs.Answers.{replies}
 use Rattle.table_model.specs.Phases.{Phases}
+use Rattle.table_model.specs.Refusals.{MayRefuse}
 use Rattle.table_model.specs.Text.{answer_text, refused_text}
 
 -- one outcome for each command of a script
@@ -73,10 +73,10 @@ abbrev pub AllApart : List (List ℕ) → Type 0
 AllApart [] = Unit {0}
 AllApart (ns ∷ nss) = All (λ a. All (λ b. a ≡ b → ⊥) (flat_map (λ ms. ms) nss)) ns × AllApart nss
 
--- Which outcomes a command may have. As long as there is no device, want of memory is the only refusal.
+-- which outcomes a command may have: any answer, since the history says which, and its own refusals
 abbrev pub IsFor : Command → Outcome → Type 0
 IsFor c (answered seq reply) = Unit {0}
-IsFor c (refused why) = why ≡ Memory
+IsFor c (refused why) = MayRefuse c why
 
 -- one outcome for each command, and one that it may have
 abbrev pub OneEach : List Command → List Outcome → Type 0

@@ -1,10 +1,11 @@
 -- The printed lines.
-use Rattle.std.specs.Prelude.{ℕ, List, [], ◌∷◌, ◌++◌, length, codes, decimal}
+use Rattle.std.specs.Prelude.{ℕ, List, [], ◌∷◌, ◌++◌, length, Option, Some, None, codes, decimal}
 use Rattle.geo_base.specs.declared.points.Point.{Point}
 use Rattle.geo_base.specs.declared.points.Row.{Row}
 use Rattle.table_model.specs.declared.Why.{Why}
 use Rattle.table_model.specs.declared.Why.TheVariants.{Fault, Stopped, Full, NoIndex, Damaged, Memory}
-use Rattle.table_model.specs.Commands.{WriteReply, put_new, put_old, Reply, wrote, rows}
+use Rattle.table_model.specs.Table.{Place}
+use Rattle.table_model.specs.Commands.{WriteReply, put_new, put_old, del_none, del_old, Reply, wrote, got, counted, rows}
 
 -- the empty note is printed as `-`
 abbrev pub note_text : List ℕ → List ℕ
@@ -26,15 +27,25 @@ rows_text (row ∷ rs) = row_text row ++ rows_text rs
 abbrev pub write_text : WriteReply → List ℕ
 write_text put_new = codes "put new\n"
 write_text (put_old p note) = codes "put old " ++ place_text p note ++ codes "\n"
+write_text del_none = codes "del none\n"
+write_text (del_old p note) = codes "del old " ++ place_text p note ++ codes "\n"
+
+abbrev pub get_text : Option Place → List ℕ
+get_text None = codes "get none\n"
+get_text (Some there) = codes "get " ++ place_text there.point there.note ++ codes "\n"
 
 -- the first line of an answer, behind the place and the lane
 abbrev pub first_line : Reply → List ℕ
 first_line (wrote w) = write_text w
+first_line (got found) = get_text found
+first_line (counted n) = codes "count " ++ decimal n ++ codes "\n"
 first_line (rows rs) = codes "region " ++ decimal (length rs) ++ codes "\n"
 
 -- the lines that follow it
 abbrev pub more_lines : Reply → List ℕ
 more_lines (wrote w) = []
+more_lines (got found) = []
+more_lines (counted n) = []
 more_lines (rows rs) = rows_text rs
 
 -- PLACE LANE and a space
