@@ -1,11 +1,11 @@
 -- The table that an image recovers to.
-use Rattle.std.specs.Prelude.{◌≡◌, List, [], ◌∷◌, map}
+use Rattle.std.specs.Prelude.{◌≡◌, ℕ, List, [], ◌∷◌, map}
 use Rattle.std.specs.FinMap.{empty}
 use Rattle.dev_model.specs.Story.{Bytes}
 use Rattle.table_model.specs.Table.{Table}
 use Rattle.table_model.specs.Commands.{Write, put, del}
 use Rattle.table_model.specs.Answers.{after_write}
-use Rattle.wal_log.specs.Rules.{Segments, records_of}
+use Rattle.wal_log.specs.Rules.{records_of}
 use Rattle.wal_log.specs.Segments.{segments_of}
 use Rattle.wal_log.specs.declared.records.Record.{Record}
 use Rattle.wal_log.specs.declared.records.LogOp.{LogOp}

@@ -1,5 +1,5 @@
 -- The first page of a device.
-use Rattle.std.specs.Prelude.{◌≡◌, ℕ, ◌≤◌, List, [], ◌∷◌, ◌++◌}
+use Rattle.std.specs.Prelude.{◌≡◌, ℕ, ◌≤◌, List, ◌∷◌, ◌++◌, ◌-◌}
 use Rattle.std.specs.Int.{to_be_bytes, w32}
 use Rattle.dev_model.specs.Story.{Bytes, part}
 use Rattle.geo_base.specs.declared.indexes.TheConstants.{ALL_INDEXES}

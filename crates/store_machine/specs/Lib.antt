@@ -1,0 +1,6 @@
+pub mod Machine
+pub mod Needs
+pub mod Runs
+pub mod Crash
+pub mod Standing
+pub mod Laws
