@@ -1,8 +1,8 @@
 -- What a crash leaves of the log during each call of an append, and after the last.
-use Rattle.std.proofs.Common.{zero, suc, ◌*◌, map, ◌≡◌, ◌≢◌, ◌⊎◌, inl, inr, ⊎_elim, ℕ, ◌+◌, ◌-◌, ◌<◌, ◌≤◌, List, [], ◌∷◌, ◌++◌, Option, Some, None, Result, length, get_or, set, refl, sym, ◌∙◌, ap, subst, arith, length-append, Bool, false, ◌==◌, ◌%◌}
+use Rattle.std.proofs.Common.{zero, suc, ◌*◌, map, ◌≡◌, ◌≢◌, ◌⊎◌, inl, inr, ⊎_elim, ℕ, ◌+◌, ◌-◌, ◌<◌, ◌≤◌, List, [], ◌∷◌, ◌++◌, Option, Some, None, Result, length, get_or, set, sym, ◌∙◌, ap, subst, arith, length-append, Bool, false, ◌==◌, ◌%◌}
 use Rattle.std.proofs.lemmas.Bool.{cases_eq}
 use Rattle.std.proofs.lemmas.List.{length-map}
-use Rattle.dev_model.specs.Story.{Bytes, Write, Sync, Calls, Story, Did, after, bytes_of, part, patched, IsInside, IsOutside, IsSettled, IsReadable, IsImageDuring}
+use Rattle.dev_model.specs.Story.{Bytes, Write, Sync, Calls, Story, Did, after, bytes_of, patched, IsInside, IsOutside, IsSettled, IsReadable, IsImageDuring}
 use Rattle.dev_model.specs.Moments.{LeavesOnly, WritesWithin, AreSpared}
 use Rattle.dev_model.specs.Laws.Frame.{WritesWithin-did}
 use Rattle.dev_model.specs.Laws.Ranges.{patched-outside, patched-inside}
@@ -227,12 +227,13 @@ module _ (s : Story) (log : Log) (rest : IsAtRest log s) (below : newest log < 4
   abbrev end : Story
   end = after s (append_all_calls log rs)
 
+  pub append-all : Leaves s (append_all_calls log rs) (λ image. IsBeforeOrAfterAll (newest log) bodies_of (segments_of (bytes_of s)) (segments_of image))
+  append-all = grows s (newest log) log.records below rest.still rest.started rest.counts bodies_of fits wide (behind_gate bodies_of) all_gated
+
   pub append-leaves : {T E : Type 0} (old new : Option Story) (result : Result T E) → old ≡ Some s → Did (append_all_calls log rs) old new result
       → LeavesOnly s new (λ image. IsBeforeOrAfterAll (newest log) bodies_of (segments_of (bytes_of s)) (segments_of image))
   append-leaves old new result is did =
-      let all : Leaves s (append_all_calls log rs) (λ image. IsBeforeOrAfterAll (newest log) bodies_of (segments_of (bytes_of s)) (segments_of image)) =
-      grows s (newest log) log.records below rest.still rest.started rest.counts bodies_of fits wide (behind_gate bodies_of) all_gated in
-      LeavesOnly-did s (append_all_calls log rs) _ old new result is did all.0 all.1
+      LeavesOnly-did s (append_all_calls log rs) _ old new result is did append-all.0 append-all.1
 
   pub append-grown : (t : Story) → end ≡ t → segments_of (bytes_of t) ≡ growing
   append-grown t is =
