@@ -7,5 +7,6 @@ pub mod Ordering
 pub mod Planned
 pub mod Renewing
 pub mod Spelled
+pub mod Together
 pub mod Turning
 pub mod Walking

@@ -1,5 +1,5 @@
 -- The value of a log that was read.
-use Rattle.std.proofs.Common.{◌≡◌, ℕ, zero, suc, ◌+◌, ◌<◌, ◌%◌, Bool, false, List, [], ◌∷◌, length, get_or, Option, Some, None, sym, ◌∙◌, ap, subst, arith, ◌==◌}
+use Rattle.std.proofs.Common.{◌≡◌, ℕ, ◌+◌, ◌<◌, ◌%◌, false, List, [], ◌∷◌, length, get_or, Option, Some, None, sym, ◌∙◌, ap, subst, arith, ◌==◌}
 use Rattle.dev_model.specs.Story.{Bytes, Story, bytes_of}
 use Rattle.wal_log.specs.Places.{ReadsLog}
 use Rattle.wal_log.specs.Places.{segment_start}
@@ -13,14 +13,6 @@ use Rattle.wal_log.proofs.Keeping.{sound-from}
 use Rattle.wal_log.specs.declared.log.Log.{Log}
 use Rattle.wal_log.specs.declared.walk.Ended.{Ended}
 use Rattle.wal_log.proofs.Finding.{IsStill-after, bytes_of-after}
-
-pub four-flags : (b : Bytes) (first second third fourth : Bool) → first ≡ (b (segment_start 0) == 165) → second ≡ (b (segment_start 1) == 165) → third ≡ (b (segment_start 2) == 165) → fourth ≡ (b (segment_start 3) == 165)
-    → (k : ℕ) → k < 4 → get_or (first ∷ second ∷ third ∷ fourth ∷ []) k false ≡ (b (segment_start k) == 165)
-four-flags b first second third fourth is_1 is_2 is_3 is_4 zero lt = is_1
-four-flags b first second third fourth is_1 is_2 is_3 is_4 (suc zero) lt = is_2
-four-flags b first second third fourth is_1 is_2 is_3 is_4 (suc (suc zero)) lt = is_3
-four-flags b first second third fourth is_1 is_2 is_3 is_4 (suc (suc (suc zero))) lt = is_4
-four-flags b first second third fourth is_1 is_2 is_3 is_4 (suc (suc (suc (suc k)))) lt = absurd (omega arith)
 
 pub at_rest-found : (s t : Story) (now : Option Story) (log : Log) (at_end : Ended) → ReadsLog s now → now ≡ Some t → IsStill s → IsNewest (bytes_of s) at_end
     → ((k : ℕ) → k < 4 → get_or log.open_headers k false ≡ (bytes_of s (segment_start k) == 165)) → log.generation ≡ at_end.generation → log.records ≡ at_end.records → IsAtRest log t

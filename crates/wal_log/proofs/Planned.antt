@@ -1,15 +1,22 @@
 -- What planned calls leave: writes, each with its sync.
 use Rattle.std.proofs.Common.{◌≡◌, inr, ℕ, List, [], ◌∷◌, ◌++◌, Option, Some, None, Ok, Err, refl, sym, ◌∙◌, subst}
 use Rattle.std.proofs.lemmas.Option.{same_Some}
-use Rattle.dev_model.specs.Story.{Bytes, Write, Sync, Calls, Story, after, all_noted, bytes_of, IsImageDuring, IsImageNow, HasStoppedIn}
+use Rattle.dev_model.specs.Story.{Bytes, Write, Sync, Calls, Story, after, clock_of, all_noted, bytes_of, IsImageDuring, IsImageNow, HasStoppedIn}
 use Rattle.dev_model.specs.Laws.Ranges.{patched-outside}
 use Rattle.dev_model.specs.Laws.Images.{IsReadable-settled}
 use Rattle.dev_model.specs.Laws.Plans.{all_noted-told, no_story, Did-untold, Did-cut, Did-then}
-use Rattle.dev_model.specs.Laws.Runs.{During}
+use Rattle.dev_model.specs.Laws.Runs.{During, LeavesOnly-calls}
+use Rattle.dev_model.specs.Moments.{EachMoment, LeavesOnly}
 
 -- what holds of each image while these calls are under way, and after the last
 abbrev pub Leaves : Story → Calls → (Bytes → Type 0) → Type 0
 Leaves s calls P = During s calls P × ((image : Bytes) → IsImageNow (after s calls) image → P image)
+
+-- that is each image of each moment from here on
+pub leaves-moments : (s : Story) (calls : Calls) (P : Bytes → Type 0) → Leaves s calls P → EachMoment (clock_of s) (after s calls) (λ _. P)
+leaves-moments s calls P all =
+    let left : LeavesOnly s (Some (after s calls)) P = LeavesOnly-calls s calls P (Some (after s calls)) refl all.0 all.1 in
+    subst (λ (t : Story). EachMoment (clock_of s) t (λ _. P)) (sym (same_Some (after s calls) (after s left.calls) left.told)) left.each
 
 -- a write and its sync
 pub leaves-one : (s : Story) (at : ℕ) (new : List ℕ) (P : Bytes → Type 0) → ((image : Bytes) → IsImageDuring s (Write at new) image → P image) → Leaves s (Write at new ∷ Sync ∷ []) P

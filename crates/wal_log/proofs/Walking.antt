@@ -5,8 +5,8 @@ use Rattle.std.proofs.lemmas.List.{drop_more, take_more, get_or-map, length-map,
 use Rattle.std.proofs.Math.Seq.{take-length, drop-length}
 use Rattle.dev_model.specs.Story.{Bytes, Story, after, bytes_of, WhereTold}
 use Rattle.wal_log.specs.Places.{ReadsLog}
-use Rattle.wal_log.proofs.Finding.{IsStill-after, IsSegmentStill-after, IsOpenStill-after, bytes_of-after}
-use Rattle.wal_log.specs.State.{IsStill, IsSegmentStill, HasLast}
+use Rattle.wal_log.proofs.Finding.{IsOpenStill-after, bytes_of-after}
+use Rattle.wal_log.specs.State.{IsStill, HasLast}
 use Rattle.wal_log.specs.Found.{IsOpenStill}
 use Rattle.wal_log.specs.Records.{record_of}
 use Rattle.wal_log.specs.Headers.{first_lsn_in, generation_in}
@@ -168,16 +168,6 @@ pub halves : (i n : ℕ) → i < n + 1 → (i < n) ⊎ (i ≡ n)
 halves i n lt = grind arith
 
 -- what is told after reads alone was so before them
-pub told-back : (P : Bytes → Type 0) (s : Story) (mid : Option Story) → ReadsLog s mid → WhereTold mid (λ t. IsStill t → P (bytes_of t)) → IsStill s → P (bytes_of s)
-told-back P s mid reads told still =
-    let t : Story = after s reads.calls in
-    subst P (bytes_of-after s t mid reads reads.told) (told t reads.told (IsStill-after s t mid reads reads.told still))
-
-pub told-back-segment : (P : Bytes → Type 0) (k : ℕ) (s : Story) (mid : Option Story) → ReadsLog s mid → WhereTold mid (λ t. IsSegmentStill k t → P (bytes_of t)) → IsSegmentStill k s → P (bytes_of s)
-told-back-segment P k s mid reads told still =
-    let t : Story = after s reads.calls in
-    subst P (bytes_of-after s t mid reads reads.told) (told t reads.told (IsSegmentStill-after s t mid reads reads.told k still))
-
 pub told-back-open : (P : Bytes → Type 0) (k : ℕ) (s : Story) (mid : Option Story) → ReadsLog s mid → WhereTold mid (λ t. IsOpenStill k t → P (bytes_of t)) → IsOpenStill k s → P (bytes_of s)
 told-back-open P k s mid reads told still =
     let t : Story = after s reads.calls in

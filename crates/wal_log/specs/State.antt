@@ -1,10 +1,10 @@
 -- How a log that is kept in memory belongs to the bytes, and the calls that an append and a change of segments make.
-use Rattle.std.specs.Prelude.{◌≡◌, ◌⊎◌, ℕ, ◌+◌, ◌<◌, ◌≤◌, ◌%◌, ◌^◌, List, [], ◌∷◌, ◌++◌, length, get_or, set, Bool, false, if◌then◌else◌, ◌==◌, None, Some}
+use Rattle.std.specs.Prelude.{◌≡◌, ◌⊎◌, ℕ, ◌+◌, ◌<◌, ◌≤◌, ◌%◌, ◌^◌, List, [], ◌∷◌, ◌++◌, length, map, get_or, set, Bool, false, if◌then◌else◌, ◌==◌, None, Some}
 use Rattle.dev_model.specs.Story.{Story, bytes_of, IsCalmAt, Write, Sync, Calls}
 use Rattle.wal_log.specs.Places.{segment_start, record_start}
 use Rattle.wal_log.specs.Headers.{header_bytes}
 use Rattle.wal_log.specs.Records.{record_bytes}
-use Rattle.wal_log.specs.Segments.{Segments, segment_records, with_record, started_segment, IsLooked}
+use Rattle.wal_log.specs.Segments.{Segments, segment_records, with_records, behind_gate, started_segment, IsLooked}
 use Rattle.wal_log.specs.Rules.{Numbered, generation_of, next_lsn_of, AreSound, in_order, Opens, records_of}
 use Rattle.wal_log.specs.declared.places.TheConstants.{MOST_RECORDS, OPEN}
 use Rattle.wal_log.specs.declared.log.Log.{Log}
@@ -46,11 +46,16 @@ pub record IsCounted (log : Log) : Type 0 where
   pub generation : log.generation + log.records ≤ log.next_lsn
   pub next_lsn : log.next_lsn ≤ 2 ^ 62
 
+-- Records one behind another, with the open gates between them and a closed gate behind the last, and then the gate of the first,
+-- open. With that gate all of them stand, and none before.
+abbrev pub append_all_calls : Log → List Record → Calls
+append_all_calls log rs =
+    let gate = record_start (newest log) log.records in
+    Write (gate + 1) (behind_gate (map record_bytes rs)) ∷ Sync ∷ Write gate (OPEN ∷ []) ∷ Sync ∷ []
+
 -- a record with the closed gate behind it, and then its own gate, open
 abbrev pub append_calls : Log → Record → Calls
-append_calls log r =
-    let gate = record_start (newest log) log.records in
-    Write (gate + 1) (record_bytes r ++ 0 ∷ []) ∷ Sync ∷ Write gate (OPEN ∷ []) ∷ Sync ∷ []
+append_calls log r = append_all_calls log (r ∷ [])
 
 -- the gate of a header, closed
 abbrev pub close_calls : ℕ → Calls
@@ -74,9 +79,13 @@ turn_calls log =
     close_calls_if (get_or log.open_headers (following log) false) (following log)
     ++ start_calls (following log) (log.generation + 1) log.next_lsn
 
+-- the old segments, or these with all of these records more in one of them
+abbrev pub IsBeforeOrAfterAll : ℕ → List (List ℕ) → Segments → Segments → Type 0
+IsBeforeOrAfterAll k bodies old image = (image ≡ old) ⊎ (image ≡ set old k (with_records bodies (get_or old k None)))
+
 -- the old segments, or these with one record more in one of them
 abbrev pub IsBeforeOrAfter : ℕ → List ℕ → Segments → Segments → Type 0
-IsBeforeOrAfter k bytes old image = (image ≡ old) ⊎ (image ≡ set old k (with_record bytes (get_or old k None)))
+IsBeforeOrAfter k bytes old image = IsBeforeOrAfterAll k (bytes ∷ []) old image
 
 -- the header that the next segment gets
 abbrev pub first_header : Log → List ℕ
@@ -94,9 +103,13 @@ pub record OpensAs (ends : List ℕ) (records : List Record) (segments : Segment
   pub opens : Opens ends segments
   pub records_are : records_of segments ≡ records
 
+-- it has these records, or these and all of those
+abbrev pub HasRecordsOrAll : List ℕ → List Record → List Record → Segments → Type 0
+HasRecordsOrAll ends records rs segments = OpensAs ends records segments ⊎ OpensAs ends (records ++ rs) segments
+
 -- it has these records, or these and one more
 abbrev pub HasRecordsOr : List ℕ → List Record → Record → Segments → Type 0
-HasRecordsOr ends records r segments = OpensAs ends records segments ⊎ OpensAs ends (records ++ r ∷ []) segments
+HasRecordsOr ends records r segments = HasRecordsOrAll ends records (r ∷ []) segments
 
 -- it has the same records, but for those of the segment in turn where that is closed or used again
 abbrev pub HasSameRecords : List ℕ → ℕ → Segments → Segments → Type 0

@@ -1,9 +1,15 @@
-// A law of the log, as the contract of a function that does nothing.
-ghost use Rattle.std.specs.Prelude.{◌≡◌, ℕ, Some};
+// Laws of the log, each as the contract of a function that does nothing.
+ghost use Rattle.std.specs.Prelude.{◌≡◌, ◌+◌, ◌<◌, ◌≤◌, ℕ, List, length, map, Some};
 ghost use Rattle.dev_model.specs.Story.{Story, Calls, bytes_of, after, clock_of};
 ghost use Rattle.dev_model.specs.Moments.{EachMoment, AreSpared};
-ghost use Rattle.wal_log.specs.Segments.{Segment, segment_at, IsRecorded, StartsWith};
-ghost use Rattle.wal_log.specs.State.{IsSegmentStill};
+ghost use Rattle.wal_log.specs.Records.{record_bytes, record_of};
+ghost use Rattle.wal_log.specs.Rules.{AreRecords, Opens, records_of};
+ghost use Rattle.wal_log.specs.Segments.{Segment, segment_at, segments_of, IsRecorded, StartsWith};
+ghost use Rattle.wal_log.specs.State.{IsSegmentStill, IsAtRest, IsLogOf, HasRecordsOrAll, append_all_calls};
+ghost use Rattle.wal_log.specs.declared.log.Log.{Log};
+ghost use Rattle.wal_log.specs.declared.records.Record.{Record};
+
+use crate::places::MOST_RECORDS;
 
 /// A law: what a segment has on the disk is in each image of each later moment, until something is written over it. More
 /// records may come behind it.
@@ -12,4 +18,16 @@ pub fn logged_records_stay()
         → segment_at k (bytes_of s) ≡ Some segment → IsSegmentStill k s
         → ((i : ℕ) → IsRecorded k segment i → AreSpared calls i)
         → EachMoment (clock_of s) (after s calls) (λ _ image. StartsWith segment (segment_at k image)) }
+{}
+
+/// A law: records that one write puts behind one another, and of which the gate of the first alone is opened after the
+/// sync, are all there after a crash, or none of them is.
+pub fn records_stand_together()
+    ensures { (log : Log) (s : Story) (rs : List Record)
+        → IsAtRest log s → IsLogOf log (segments_of (bytes_of s))
+        → 0 < length rs → log.records + length rs ≤ MOST_RECORDS
+        → AreRecords log.next_lsn (map record_bytes rs) → map record_of (map record_bytes rs) ≡ rs
+        → (ends : List ℕ) → Opens ends (segments_of (bytes_of s))
+        → EachMoment (clock_of s) (after s (append_all_calls log rs))
+        (λ _ image. HasRecordsOrAll ends (records_of (segments_of (bytes_of s))) rs (segments_of image)) }
 {}

@@ -9,41 +9,11 @@ ghost use Rattle.wal_log.specs.Rules.{Opens, IsBad, records_of};
 ghost use Rattle.wal_log.specs.Found.{WhereBad, HasCauseOfFault};
 ghost use Rattle.wal_log.specs.State.{IsAtRest, IsCounted, IsLogOf, IsSegmentStill, IsStill};
 
-use crate::places::{LOG_PAGES, OPEN, segment_start};
-use crate::walk::read_segments;
+use crate::places::LOG_PAGES;
+use crate::walk::{Gathered, read_segments};
 use crate::{Log, LogFault, Record};
-use dev_model::{Device, Failed};
+use dev_model::Device;
 use std::alloc::Global;
-
-/// Tells whether the gate of a segment's header is open.
-fn is_open<D: Device>(device: &mut D, segment: u8) -> Result<bool, Failed>
-    requires below { segment < 4 }
-    requires pages { LOG_PAGES ≤ D.pages device.old }
-    ensures told { IfOk result (λ answer. WhereTold (D.story device.old) (λ s. IsSegmentStill segment s → answer ≡ (bytes_of s (segment_start segment) == 165))) }
-    ensures reads { WhereTold (D.story device.old) (λ s. ReadsLog s (D.story device.new)) }
-    ensures same_pages { D.pages device.new ≡ D.pages device.old }
-    ensures cause { HasCause (D.fault_count device.old) (D.fault_count device.new) result }
-{
-    let mut gate = [0];
-    device.read(segment_start(segment), &mut gate)?;
-    Ok(gate[0] == OPEN)
-}
-
-/// Tells which headers are open.
-fn open_headers<D: Device>(device: &mut D) -> Result<[bool; 4], Failed>
-    requires pages { LOG_PAGES ≤ D.pages device.old }
-    ensures told { IfOk result (λ flags. WhereTold (D.story device.old) (λ s. IsStill s →
-        (k : ℕ) → k < 4 → get_or flags k false ≡ (bytes_of s (segment_start k) == 165))) }
-    ensures reads { WhereTold (D.story device.old) (λ s. ReadsLog s (D.story device.new)) }
-    ensures same_pages { D.pages device.new ≡ D.pages device.old }
-    ensures cause { HasCause (D.fault_count device.old) (D.fault_count device.new) result }
-{
-    let first = is_open(device, 0)?;
-    let second = is_open(device, 1)?;
-    let third = is_open(device, 2)?;
-    let fourth = is_open(device, 3)?;
-    Ok([first, second, third, fourth])
-}
 
 impl Log {
     /// Reads the log: its end, and all records in order. `ends` are the numbers of the last records that the indexes hold,
@@ -67,12 +37,13 @@ impl Log {
         ensures same_pages { D.pages device.new ≡ D.pages device.old }
         ensures cause { HasCauseOfFault (D.fault_count device.old) (D.fault_count device.new) result }
     {
-        let open_headers = match open_headers(device) {
-            Ok(flags) => flags,
-            Err(_) => return Err(LogFault::Failed),
-        };
         match read_segments(device, ends, alloc) {
-            Ok((ended, records)) => {
+            Ok(read) => {
+                let Gathered {
+                    ended,
+                    open_headers,
+                    records,
+                } = read;
                 let log = Log {
                     generation: ended.generation,
                     next_lsn: ended.first_lsn + ended.records,

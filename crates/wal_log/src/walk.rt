@@ -1,8 +1,8 @@
 // The walk over the segments, from the oldest to the newest.
-ghost use Rattle.std.specs.Prelude.{◌≡◌, ◌+◌, ◌<◌, ◌≤◌, ◌^◌, ◌++◌, [], ◌∷◌, Some, None, IfOk, IfErr, OnOk, ℕ, length, drop, replicate, All, take};
+ghost use Rattle.std.specs.Prelude.{◌==◌, get_or, false, ◌≡◌, ◌+◌, ◌<◌, ◌≤◌, ◌^◌, ◌++◌, [], ◌∷◌, Some, None, IfOk, IfErr, OnOk, ℕ, length, drop, replicate, All, take};
 ghost use Rattle.std.specs.Bool.{OnTrue, OnFalse};
 ghost use Rattle.dev_model.specs.Story.{WhereTold, bytes_of};
-ghost use Rattle.wal_log.specs.Places.{ReadsLog};
+ghost use Rattle.wal_log.specs.Places.{ReadsLog, segment_start};
 ghost use Rattle.wal_log.specs.State.{IsStill};
 ghost use Rattle.wal_log.specs.Segments.{segments_of};
 ghost use Rattle.wal_log.specs.Rules.{Opens, IsBad, records_of};
@@ -10,11 +10,19 @@ ghost use Rattle.wal_log.specs.Found.{IsOpenStill, WhereBad, HasCauseOfFault};
 ghost use Rattle.wal_log.specs.Walk.{GoesOn, StartsAfter, EndsThere, HasReadSegment, IsUnsound, IsNewest, IsEndOf, IsCountedEnd};
 
 use crate::heads::{Head, read_heads};
-use crate::places::LOG_PAGES;
+use crate::places::{LOG_PAGES, OPEN};
 use crate::reading::read_records;
 use crate::{LogFault, Record};
 use dev_model::Device;
 use std::alloc::Global;
+
+/// What the segments gave: the end of the newest, which headers are open, and all records in order.
+#[derive(Drop)]
+pub struct Gathered {
+    pub ended: Ended,
+    pub open_headers: [bool; 4],
+    pub records: Vec<Record>,
+}
 
 /// The end of a segment that was read.
 #[derive(Clone, Copy)]
@@ -123,19 +131,21 @@ fn read_segment<D: Device>(
     }
 }
 
-/// Reads all records of the log, and answers the end of the newest segment with them.
+/// Reads all segments of the log.
 pub fn read_segments<D: Device>(
     device: &mut D,
     ends: &[u64],
     alloc: Global,
-) -> Result<(Ended, Vec<Record>), LogFault>
+) -> Result<Gathered, LogFault>
     requires pages { LOG_PAGES ≤ D.pages device.old }
     requires some { 1 ≤ length ends.now }
     requires below { All (λ last. last < 2 ^ 62) ends.now }
     ensures opens { IfOk result (λ read. WhereTold (D.story device.old) (λ s. IsStill s → Opens ends.now (segments_of (bytes_of s)))) }
-    ensures records { IfOk result (λ read. WhereTold (D.story device.old) (λ s. IsStill s → read.1.items ≡ records_of (segments_of (bytes_of s)))) }
-    ensures counted { IfOk result (λ read. IsCountedEnd read.0) }
-    ensures newest { IfOk result (λ read. WhereTold (D.story device.old) (λ s. IsStill s → IsNewest (bytes_of s) read.0)) }
+    ensures records { IfOk result (λ read. WhereTold (D.story device.old) (λ s. IsStill s → read.records.items ≡ records_of (segments_of (bytes_of s)))) }
+    ensures counted { IfOk result (λ read. IsCountedEnd read.ended) }
+    ensures newest { IfOk result (λ read. WhereTold (D.story device.old) (λ s. IsStill s → IsNewest (bytes_of s) read.ended)) }
+    ensures told { IfOk result (λ read. WhereTold (D.story device.old) (λ s. IsStill s →
+        (k : ℕ) → k < 4 → get_or read.open_headers k false ≡ (bytes_of s (segment_start k) == OPEN))) }
     ensures bad { IfErr result (λ fault. WhereBad fault (λ number.
         WhereTold (D.story device.old) (λ s. IsStill s → IsBad ends.now (segments_of (bytes_of s)) number))) }
     ensures reads { WhereTold (D.story device.old) (λ s. ReadsLog s (D.story device.new)) }
@@ -148,17 +158,22 @@ pub fn read_segments<D: Device>(
     };
     let mut records = Vec::new(alloc);
     let mut before = None;
-    for i in 0..heads.len() {
-        let head = heads[i];
+    for i in 0..heads.in_order.len() {
+        let head = heads.in_order[i];
         let ended = match read_segment(device, before, &head, &mut records) {
             Ok(ended) => ended,
             Err(fault) => return Err(fault),
         };
-        if i + 1 == heads.len() {
+        if i + 1 == heads.in_order.len() {
             if !all_end_there(before, &head, ends) {
                 return Err(LogFault::BadLog(head.number));
             }
-            return Ok((ended, records));
+            let open_headers = heads.open_headers;
+            return Ok(Gathered {
+                ended,
+                open_headers,
+                records,
+            });
         }
         before = Some(ended);
     }

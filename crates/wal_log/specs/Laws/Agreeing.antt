@@ -1,14 +1,14 @@
 -- What is read of segments from bytes that agree in part, and from each image of a story in which all that is looked at is on the
 -- disk. No public contract needs these laws.
-use Rattle.std.proofs.Common.{◌≡◌, ◌≢◌, ◌⊎◌, inl, inr, ⊎_elim, ℕ, zero, suc, ◌+◌, ◌-◌, ◌*◌, ◌<◌, ◌≤◌, List, [], ◌∷◌, ◌++◌, length, set, get_or, refl, sym, ◌∙◌, ap, subst, arith, Option, Some, None, if◌then◌else◌, ◌==◌}
+use Rattle.std.proofs.Common.{length-append, ◌≡◌, ◌≢◌, ◌⊎◌, inl, inr, ⊎_elim, ℕ, zero, suc, ◌+◌, ◌-◌, ◌*◌, ◌<◌, ◌≤◌, List, [], ◌∷◌, ◌++◌, length, set, get_or, refl, sym, ◌∙◌, ap, subst, arith, Option, Some, None, if◌then◌else◌, ◌==◌}
 use Rattle.std.proofs.lemmas.Bool.{cases_eq}
 use Rattle.std.proofs.lemmas.Bool.Decides.{nat_tests}
-use Rattle.std.proofs.lemmas.List.{nil_from_length, append-nil}
+use Rattle.std.proofs.lemmas.List.{nil_from_length, append-nil, get_or_append_left, get_or-append_right}
 use Rattle.dev_model.specs.Story.{Bytes, Story, bytes_of, part, IsImageNow}
-use Rattle.dev_model.specs.Laws.Ranges.{part-same}
+use Rattle.dev_model.specs.Laws.Ranges.{part-same, part-list}
 use Rattle.wal_log.specs.Places.{segment_start, record_start}
 use Rattle.wal_log.specs.State.{IsStill}
-use Rattle.wal_log.specs.Segments.{Segment, open_records, segment_records, segment_header, segment_at, segments_of, with_record, IsLooked}
+use Rattle.wal_log.specs.Segments.{Segment, open_records, segment_records, segment_header, segment_at, segments_of, with_records, gated, behind_gate, AreWide, IsLooked}
 
 pub open_records-shut : (places at : ℕ) (a : Bytes) → a at ≢ 165 → open_records places at a ≡ []
 unfolding open_records
@@ -66,6 +66,38 @@ open_records-end (suc places) at a less = elim (cases_eq (a at) 165) [
       λ is. shut (ap a place ∙ is)
 ]
 
+-- these bytes stand from a place on
+abbrev pub Holds : ℕ → List ℕ → Bytes → Type 0
+Holds at xs a = (i : ℕ) → i < length xs → a (at + i) ≡ get_or xs i 0
+
+pub length-gated : (bodies : List (List ℕ)) → AreWide bodies → length (gated bodies) ≡ 96 * length bodies + 1
+length-gated [] wide = refl
+length-gated (body ∷ bodies) wide = omega (arith, length-append body (gated bodies), wide.0, length-gated bodies wide.1)
+
+pub gated-behind : (bodies : List (List ℕ)) → 0 < length bodies → 165 ∷ behind_gate bodies ≡ gated bodies
+gated-behind [] some = absurd (omega arith)
+gated-behind (body ∷ bodies) some = refl
+
+-- records with their gates are read as these records
+pub open_records-gated : (bodies : List (List ℕ)) (places at : ℕ) (a : Bytes) → length bodies < places → AreWide bodies → Holds at (gated bodies) a → open_records places at a ≡ bodies
+open_records-gated [] places at a less wide there =
+    let here : at + 0 ≡ at = omega arith in
+    let zero_is : a at ≡ 0 = ap a (sym here) ∙ there 0 (omega arith) in
+    open_records-shut places at a (λ is. omega (arith, is, zero_is))
+open_records-gated (body ∷ bodies) zero at a less wide there = absurd (omega (arith, less))
+open_records-gated (body ∷ bodies) (suc places) at a less wide there =
+    let here : at + 0 ≡ at = omega arith in
+    let all : length (165 ∷ body ++ gated bodies) ≡ 96 + length (gated bodies) = omega (arith, length-append body (gated bodies), wide.0) in
+    let gate : a at ≡ 165 = ap a (sym here) ∙ there 0 (omega (arith, all)) in
+    let first : part (at + 1) 95 a ≡ body = part-list (at + 1) 95 a body wide.0 (λ n lt.
+        let place : at + 1 + n ≡ at + suc n = omega arith in
+        ap a place ∙ there (suc n) (omega (arith, all, lt)) ∙ get_or_append_left body (gated bodies) 0 n (omega (arith, wide.0, lt))) in
+    let rest : open_records places (at + 96) a ≡ bodies = open_records-gated bodies places (at + 96) a (omega (arith, less)) wide.1 (λ n lt.
+        let place : at + 96 + n ≡ at + suc (95 + n) = omega arith in
+        let behind : 95 + n - 95 ≡ n = omega arith in
+        ap a place ∙ there (suc (95 + n)) (omega (arith, all, lt)) ∙ get_or-append_right body (gated bodies) 95 (95 + n) 0 wide.0 (omega arith) ∙ ap (λ (m : ℕ). get_or (gated bodies) m 0) behind) in
+    open_records-open places at a gate ∙ (λ j. first j ∷ rest j)
+
 -- behind the records there is a closed gate
 pub segment_records-end : (k count : ℕ) (a : Bytes) → length (segment_records k a) ≡ count → count ≤ 2048 → a (record_start k count) ≢ 165
 unfolding segment_records
@@ -111,20 +143,18 @@ module _ (k : ℕ) (a b : Bytes) where
         front ∙ ap (λ (l : List (List ℕ)). segment_records k a ++ l) (open_records-shut (2049 - count) (record_start k count) b shut) ∙ append-nil (segment_records k a) in
         segment_at-open k b gate ∙ (λ j. Some (record { header = header j; records = records j })) ∙ sym (segment_at-open k a started)
 
-    -- a record behind them, and a closed gate behind it
-    pub segment_records-grown : (bytes : List ℕ) → count < 2048 → b (record_start k count) ≡ 165 → part (record_start k count + 1) 95 b ≡ bytes → b (record_start k count + 96) ≢ 165
-        → segment_records k b ≡ segment_records k a ++ bytes ∷ []
-    segment_records-grown bytes room is_open body shut =
-        let front : segment_records k b ≡ segment_records k a ++ open_records (suc (2048 - count)) (record_start k count) b = segment_records-front count (suc (2048 - count)) counts (omega arith) (λ i low high. same i (omega arith) high) in
-        let there : open_records (suc (2048 - count)) (record_start k count) b ≡ bytes ∷ [] =
-        open_records-open (2048 - count) (record_start k count) b is_open ∙ (λ j. body j ∷ open_records-shut (2048 - count) (record_start k count + 96) b shut j) in
-        front ∙ ap (λ (l : List (List ℕ)). segment_records k a ++ l) there
+    -- records behind them, and a closed gate behind these
+    pub segment_records-grown : (bodies : List (List ℕ)) → count + length bodies ≤ 2048 → AreWide bodies → Holds (record_start k count) (gated bodies) b
+        → segment_records k b ≡ segment_records k a ++ bodies
+    segment_records-grown bodies room wide there =
+        let front : segment_records k b ≡ segment_records k a ++ open_records (2049 - count) (record_start k count) b = segment_records-front count (2049 - count) counts (omega (arith, room)) (λ i low high. same i (omega arith) high) in
+        front ∙ ap (λ (l : List (List ℕ)). segment_records k a ++ l) (open_records-gated bodies (2049 - count) (record_start k count) b (omega (arith, room)) wide there)
 
-    pub segment_at-grown : (bytes : List ℕ) → count < 2048 → b (record_start k count) ≡ 165 → part (record_start k count + 1) 95 b ≡ bytes → b (record_start k count + 96) ≢ 165
-        → segment_at k b ≡ with_record bytes (segment_at k a)
-    segment_at-grown bytes room is_open body shut =
-        let records : segment_records k b ≡ segment_records k a ++ bytes ∷ [] = segment_records-grown bytes room is_open body shut in
-        segment_at-open k b gate ∙ (λ j. Some (record { header = header j; records = records j })) ∙ ap (with_record bytes) (sym (segment_at-open k a started))
+    pub segment_at-grown : (bodies : List (List ℕ)) → count + length bodies ≤ 2048 → AreWide bodies → Holds (record_start k count) (gated bodies) b
+        → segment_at k b ≡ with_records bodies (segment_at k a)
+    segment_at-grown bodies room wide there =
+        let records : segment_records k b ≡ segment_records k a ++ bodies = segment_records-grown bodies room wide there in
+        segment_at-open k b gate ∙ (λ j. Some (record { header = header j; records = records j })) ∙ ap (with_records bodies) (sym (segment_at-open k a started))
 
 -- agreement at all that is looked at
 open_records-same : (places at : ℕ) (a b : Bytes) → ((i : ℕ) → at ≤ i → i ≤ at + 96 * length (open_records places at a) → b i ≡ a i) → open_records places at b ≡ open_records places at a
