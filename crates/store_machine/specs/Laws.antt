@@ -2,3 +2,4 @@
 pub mod Counting
 pub mod Crashes
 pub mod Steps
+pub mod Rests

@@ -1,5 +1,5 @@
 // The log: its end, where it grows, and the turn to the next segment.
-ghost use Rattle.std.specs.Prelude.{◌≡◌, ◌+◌, ◌^◌, ◌<◌, ◌≤◌, None, Some, true, IfOk, OnOk, set, get_or, ℕ, List, All};
+ghost use Rattle.std.specs.Prelude.{◌≡◌, ◌+◌, ◌-◌, ◌++◌, ◌∷◌, [], ◌^◌, ◌<◌, ◌≤◌, None, Some, true, IfOk, OnOk, set, get_or, length, ℕ, List, All};
 ghost use Rattle.dev_model.specs.Counts.{HasCause};
 ghost use Rattle.dev_model.specs.Story.{WhereTold, Did, Ticks, bytes_of};
 ghost use Rattle.dev_model.specs.Moments.{LeavesOnly, WritesWithin};
@@ -7,10 +7,10 @@ ghost use Rattle.wal_log.specs.Places.{segment_start, record_start};
 ghost use Rattle.wal_log.specs.Records.{record_bytes, HasOld};
 ghost use Rattle.wal_log.specs.Segments.{segments_of, with_record, started_segment};
 ghost use Rattle.wal_log.specs.Rules.{Opens, records_of};
-ghost use Rattle.wal_log.specs.State.{IsAtRest, IsCounted, IsLogOf, HasRecordsOr, HasSameRecords, IsBeforeOrAfter, IsTurning, newest, following, first_header, append_calls, close_calls, close_calls_if, start_calls, turn_calls};
+ghost use Rattle.wal_log.specs.State.{IsAtRest, IsCounted, IsLogOf, HasRecordsOr, HasSameRecords, OpensAs, IsBeforeOrAfter, IsTurning, newest, following, first_header, append_calls, close_calls, close_calls_if, start_calls, turn_calls};
 
 use crate::Record;
-use crate::places::{LOG_PAGES, MOST_RECORDS, OPEN, SEGMENT_BYTES, record_start, segment_start};
+use crate::places::{LOG_PAGES, MOST_RECORDS, OPEN, RECORD_BYTES, SEGMENT_BYTES, record_start, segment_start};
 use crate::spelling::{header_with_closed_gate, with_closed_gate};
 use dev_model::{Device, Failed, write_synced};
 
@@ -64,6 +64,12 @@ impl Log {
         ensures recovers { WhereTold (D.story device.old) (λ s. IsAtRest self.old s → IsLogOf self.old (segments_of (bytes_of s)) →
             (ends : List ℕ) → Opens ends (segments_of (bytes_of s)) → LeavesOnly s (D.story device.new)
             (λ image. HasRecordsOr ends (records_of (segments_of (bytes_of s))) logged.now (segments_of image))) }
+
+        // After `Ok` it reads as the records before it and the new one.
+        ensures logged { OnOk result (WhereTold (D.story device.old) (λ s. IsAtRest self.old s → IsLogOf self.old (segments_of (bytes_of s)) →
+            (ends : List ℕ) → Opens ends (segments_of (bytes_of s)) → WhereTold (D.story device.new)
+            (λ t. OpensAs ends (records_of (segments_of (bytes_of s)) ++ logged.now ∷ []) (segments_of (bytes_of t))))) }
+        ensures width { length (record_bytes logged.now) ≡ RECORD_BYTES - 1 }
 
         ensures counted { OnOk result (IsCounted self.new) }
         ensures generation { self.new.generation ≡ self.old.generation }

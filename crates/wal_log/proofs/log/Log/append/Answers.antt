@@ -1,4 +1,4 @@
-use Rattle.std.proofs.Common.{◌+◌, [], ◌∷◌, sym, ◌∙◌, ap, arith, refl, Ok, Err, subst}
+use Rattle.std.proofs.Common.{◌+◌, ◌++◌, [], ◌∷◌, sym, ◌∙◌, ap, arith, refl, Ok, Err, subst}
 use Rattle.std.proofs.lemmas.Nat.{mod_below}
 use Rattle.dev_model.specs.Story.{Write, Sync}
 use Rattle.wal_log.specs.Places.{record_start}
@@ -8,11 +8,12 @@ use Rattle.wal_log.proofs.Planned.{told-before, told-end, stopped-first, stopped
 use Rattle.wal_log.proofs.Growing.{append-within, append-are, append-leaves, append-grown, append-rests}
 use Rattle.wal_log.specs.Segments.{segments_of}
 use Rattle.wal_log.specs.declared.records.Record.{Record}
-use Rattle.wal_log.specs.State.{IsLogOf}
+use Rattle.wal_log.specs.State.{IsLogOf, OpensAs}
+use Rattle.wal_log.specs.Rules.{records_of}
 use Rattle.dev_model.specs.Story.{bytes_of}
 use Rattle.dev_model.specs.Laws.Runs.{LeavesOnly-weaker}
 use Rattle.wal_log.proofs.Spelled.{record-is}
-use Rattle.wal_log.proofs.Keeping.{one-record, log_of-append, recovers-append}
+use Rattle.wal_log.proofs.Keeping.{one-record, log_of-append, recovers-append, opens-append}
 use Rattle.wal_log.proofs.log.Log.append.Goals as goal
 
 pub returns-in_err-write_synced-clause-within : goal.returns-in_err-write_synced-clause-within
@@ -64,3 +65,8 @@ pub returns-clause-log_of : goal.returns-clause-log_of
 returns-clause-log_of g c s is rest of t now =
     subst (IsLogOf _) (sym (returns-clause-appended g c s is rest t now))
     (log_of-append c.args.self.now (segments_of (bytes_of s)) (omega arith) (record_bytes c.args.logged.now ∷ []) (omega (arith, c.requires.room)) (one-record c.args.self.now.next_lsn (record_bytes c.args.logged.now) (record-is c.args.logged.now c.args.self.now.next_lsn (c.with_closed_gate-spelled.ensures.back c.requires.below) c.requires.next c.requires.below c.with_closed_gate-spelled.ensures.note c.with_closed_gate-spelled.ensures.short c.requires.has_old)) of _ refl refl refl)
+
+pub returns-clause-logged : goal.returns-clause-logged
+returns-clause-logged g c s is rest of ends opens t now =
+    subst (OpensAs ends (records_of (segments_of (bytes_of s)) ++ c.args.logged.now ∷ [])) (sym (returns-clause-appended g c s is rest t now))
+    (opens-append c.args.self.now (segments_of (bytes_of s)) (omega arith) (record_bytes c.args.logged.now ∷ []) (omega (arith, c.requires.room)) (one-record c.args.self.now.next_lsn (record_bytes c.args.logged.now) (record-is c.args.logged.now c.args.self.now.next_lsn (c.with_closed_gate-spelled.ensures.back c.requires.below) c.requires.next c.requires.below c.with_closed_gate-spelled.ensures.note c.with_closed_gate-spelled.ensures.short c.requires.has_old)) of ends (c.args.logged.now ∷ []) (ap (λ (r : Record). r ∷ []) (c.with_closed_gate-spelled.ensures.back c.requires.below)) opens)
