@@ -3,3 +3,4 @@ pub mod Counting
 pub mod Crashes
 pub mod Steps
 pub mod Rests
+pub mod Logging

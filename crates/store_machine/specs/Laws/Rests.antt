@@ -4,7 +4,7 @@ use Rattle.std.proofs.lemmas.List.{map_push}
 use Rattle.std.proofs.lemmas.Nat.{mod_below}
 use Rattle.std.proofs.lemmas.Option.{same_Some}
 use Rattle.std.specs.FinMap.{empty}
-use Rattle.dev_model.specs.Story.{Story, Bytes, Calls, after, clock_of, bytes_of, WhereTold, IsCalmAt, IsSettled}
+use Rattle.dev_model.specs.Story.{Story, Bytes, Calls, after, clock_of, bytes_of, WhereTold, IsCalmAt, IsSettled, IsImageNow}
 use Rattle.dev_model.specs.Moments.{EachMoment, LeavesOnly, WritesWithin, AreSpared}
 use Rattle.dev_model.specs.Laws.Frame.{IsSettled-spared, bytes_of-spared, EachMoment-spared}
 use Rattle.table_model.specs.Table.{Table}
@@ -14,6 +14,7 @@ use Rattle.wal_log.specs.Places.{record_start, IsInLog}
 use Rattle.wal_log.specs.Segments.{Segments, segments_of}
 use Rattle.wal_log.specs.Rules.{Opens as LogOpens, records_of}
 use Rattle.wal_log.specs.State.{IsAtRest as LogAtRest, IsLogOf, HasRecordsOr, OpensAs, newest}
+use Rattle.wal_log.specs.Laws.Agreeing.{segments-on_disk}
 use Rattle.wal_log.specs.declared.places.TheConstants.{LOG_START, MOST_RECORDS}
 use Rattle.wal_log.specs.declared.log.Log.{Log}
 use Rattle.wal_log.specs.declared.records.Record.{Record}
@@ -42,7 +43,7 @@ IsInFront a i = IsLookedInSuperblock a i ⊎ IsSlotGate i
 before_log : (a : Bytes) (i : ℕ) → IsInFront a i → i < LOG_START
 before_log a i (inl (inl is)) = omega (arith, is)
 before_log a i (inl (inr looked)) = omega (arith, looked.1)
-before_log a i (inr gate) = omega (arith, gate.1.0, gate.1.1)
+before_log a i (inr gate) = omega (arith, gate.1, gate.2)
 
 module _ (pages : ℕ) (s : Story) (calls : Calls) (front : HasFront pages s) (spared : (i : ℕ) → i < LOG_START → AreSpared calls i) where
   settled : (i : ℕ) → IsInFront (bytes_of s) i → IsSettled s.past i
@@ -156,3 +157,16 @@ module _ (pages : ℕ) (log : Log) (r : Record) (table : Table) (old now : Devic
         log_opens = logged.opens;
         table_is = ap (replayed empty) logged.records_are ∙ replayed-push empty (records_of (segments_of (bytes_of s))) r ∙ ap (λ (t : Table). after_write t (write_of r.op)) rest.table_is;
       }
+
+-- what a crash leaves of a store at rest
+pub recovers-now : (pages : ℕ) (log : Log) (table : Table) (s : Story) (image : Bytes) → IsAtRest pages log table s → IsImageNow s image → Recovers pages table image
+recovers-now pages log table s image rest is =
+    let segments : segments_of image ≡ segments_of (bytes_of s) = segments-on_disk s image rest.log_rest.still is in
+    record {
+      opens = record {
+        formatted = formatted-same pages (bytes_of s) image (λ i looked. is i (rest.superblock_calm i looked)) rest.formatted;
+        directory = directory-same (bytes_of s) image (λ i gate. is i (rest.directory_calm i gate)) rest.directory;
+        log = subst (λ (x : Segments). LogOpens ends x) (sym segments) rest.log_opens;
+      };
+      table_is = ap (λ (x : Segments). replayed empty (records_of x)) segments ∙ rest.table_is;
+    }
