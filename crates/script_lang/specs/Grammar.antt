@@ -8,7 +8,7 @@ use Rattle.geo_base.specs.declared.limits.TheConstants.{MOST_KEY, MOST_COORDINAT
 use Rattle.geo_base.specs.declared.points.IndexKind.{IndexKind}
 use Rattle.geo_base.specs.declared.points.IndexKind.TheVariants.{Dhvb}
 use Rattle.geo_base.specs.declared.points.Row.{Row}
-use Rattle.table_model.specs.Commands.{put, Command, write, region}
+use Rattle.table_model.specs.Commands.{put, del, Command, write, get, count, region}
 use Rattle.line_fold.specs.Lines.{is_nothing}
 use Rattle.script_lang.specs.declared.limits.TheConstants.{MOST_LINE}
 use Rattle.script_lang.specs.Words.{words_of, without_return}
@@ -90,6 +90,21 @@ put_line words = do
   row ← row_at words
   at_end (step (write (put row.0))) row.1
 
+-- KEY alone
+unfoldable pub del_line : Words → Option Meaning
+del_line words = do
+  key ← number_at MOST_KEY words
+  at_end (step (write (del key.0))) key.1
+
+unfoldable pub get_line : Words → Option Meaning
+get_line words = do
+  key ← number_at MOST_KEY words
+  at_end (step (get key.0)) key.1
+
+-- no field
+unfoldable pub count_line : Words → Option Meaning
+count_line words = at_end (step count) words
+
 unfoldable pub region_line : Words → Option Meaning
 region_line words = do
   kind ← kind_at words
@@ -104,6 +119,9 @@ pub record Form : Type 0 where
 abbrev pub forms : List Form
 forms =
     record { verb = codes "put"; reads = put_line }
+    ∷ record { verb = codes "del"; reads = del_line }
+    ∷ record { verb = codes "get"; reads = get_line }
+    ∷ record { verb = codes "count"; reads = count_line }
     ∷ record { verb = codes "region"; reads = region_line }
     ∷ []
 

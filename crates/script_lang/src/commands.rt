@@ -6,7 +6,15 @@ use thiserror::Error;
 /// A command of a script.
 #[derive(Debug, Drop)]
 pub enum Command {
+    /// Stands the row at its key.
     Put(Row),
+    /// Takes out what stands at the key.
+    Del(u64),
+    /// Asks what stands at the key.
+    Get(u64),
+    /// Asks how many keys there are.
+    Count,
+    /// Asks for the rows in a rectangle, edges included, by an index.
     Region(IndexKind, Rect),
 }
 
@@ -40,10 +48,20 @@ pub enum ScriptFault {
 /// The answer of a command.
 #[derive(Drop)]
 pub enum Answer {
-    /// The key is new.
+    /// The key of the put is new.
     PutNew,
-    /// What stood at the key.
+    /// What stood at the key of the put.
     PutOld(Point, Note),
+    /// Nothing stood at the key of the del.
+    DelNone,
+    /// What stood at the key of the del.
+    DelOld(Point, Note),
+    /// Nothing stands at the key of the get.
+    GetNone,
+    /// What stands at the key of the get.
+    GetOld(Point, Note),
+    /// How many keys there are.
+    Counted(u64),
     /// The rows of a region, ascending by key.
     Rows(RowList),
 }

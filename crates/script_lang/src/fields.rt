@@ -18,6 +18,12 @@ fn number_field(text: &[u8], most: u64) -> Option<(u64, &[u8])>
     Some((number, rest))
 }
 
+pub fn key_field(text: &[u8]) -> Option<(u64, &[u8])>
+    ensures { option_map (λ r. (r.0, words_of r.1.now)) result ≡ number_at MOST_KEY (words_of text.now) }
+{
+    number_field(text, MOST_KEY)
+}
+
 #[tactic(auto, unfolding(crate::specs::Grammar::number_at))]
 fn coordinate_field(text: &[u8]) -> Option<(Coord, &[u8])>
     ensures { option_map (λ r. (r.0, words_of r.1.now)) result ≡ number_at MOST_COORDINATE (words_of text.now) }
@@ -81,7 +87,7 @@ pub fn rect_field(text: &[u8]) -> Option<(Rect, &[u8])>
 pub fn row_field(text: &[u8]) -> Option<(Row, &[u8])>
     ensures { option_map (λ r. (r.0, words_of r.1.now)) result ≡ row_at (words_of text.now) }
 {
-    let (key, rest) = number_field(text, MOST_KEY)?;
+    let (key, rest) = key_field(text)?;
     let (x, rest) = coordinate_field(rest)?;
     let (y, rest) = coordinate_field(rest)?;
     let Some((note, rest)) = note_field(rest) else {

@@ -2,11 +2,11 @@
 ghost use Rattle.std.specs.Prelude.{◌≡◌, None, Some};
 ghost use Rattle.std.specs.Option.{option_map};
 ghost use Rattle.script_lang.specs.Words.{words_of};
-ghost use Rattle.script_lang.specs.Grammar.{put_line, region_line, meaning_of, meaning_of_words, read_by, forms, or_bad};
+ghost use Rattle.script_lang.specs.Grammar.{put_line, del_line, get_line, count_line, region_line, meaning_of, meaning_of_words, read_by, forms, or_bad};
 ghost use Rattle.script_lang.specs.Views.{meaning_as};
 
 use crate::commands::Command;
-use crate::fields::{kind_field, rect_field, row_field};
+use crate::fields::{key_field, kind_field, rect_field, row_field};
 use crate::limits::MOST_LINE;
 use crate::words::{first_word, is_end, trimmed};
 
@@ -25,6 +25,37 @@ fn put_fields(text: &[u8]) -> Meaning
     match row_field(text) {
         Some((row, rest)) if is_end(rest) => Meaning::Step(Command::Put(row)),
         _ => Meaning::Bad,
+    }
+}
+
+#[tactic(auto, unfolding(crate::specs::Grammar::del_line))]
+fn del_fields(text: &[u8]) -> Meaning
+    ensures { meaning_as result ≡ or_bad (del_line (words_of text.now)) }
+{
+    match key_field(text) {
+        Some((key, rest)) if is_end(rest) => Meaning::Step(Command::Del(key)),
+        _ => Meaning::Bad,
+    }
+}
+
+#[tactic(auto, unfolding(crate::specs::Grammar::get_line))]
+fn get_fields(text: &[u8]) -> Meaning
+    ensures { meaning_as result ≡ or_bad (get_line (words_of text.now)) }
+{
+    match key_field(text) {
+        Some((key, rest)) if is_end(rest) => Meaning::Step(Command::Get(key)),
+        _ => Meaning::Bad,
+    }
+}
+
+#[tactic(auto, unfolding(crate::specs::Grammar::count_line))]
+fn count_fields(text: &[u8]) -> Meaning
+    ensures { meaning_as result ≡ or_bad (count_line (words_of text.now)) }
+{
+    if is_end(text) {
+        Meaning::Step(Command::Count)
+    } else {
+        Meaning::Bad
     }
 }
 
@@ -47,6 +78,15 @@ fn line_by_verb(verb: &[u8], text: &[u8]) -> Meaning
 {
     if verb == b"put".as_slice() {
         return put_fields(text);
+    }
+    if verb == b"del".as_slice() {
+        return del_fields(text);
+    }
+    if verb == b"get".as_slice() {
+        return get_fields(text);
+    }
+    if verb == b"count".as_slice() {
+        return count_fields(text);
     }
     if verb == b"region".as_slice() {
         return region_fields(text);

@@ -125,6 +125,23 @@ impl PrintedLine {
                 line.place(*point, note);
                 line.text(b"\n");
             }
+            Answer::DelNone => line.text(b"del none\n"),
+            Answer::DelOld(point, note) => {
+                line.text(b"del old ");
+                line.place(*point, note);
+                line.text(b"\n");
+            }
+            Answer::GetNone => line.text(b"get none\n"),
+            Answer::GetOld(point, note) => {
+                line.text(b"get ");
+                line.place(*point, note);
+                line.text(b"\n");
+            }
+            Answer::Counted(keys) => {
+                line.text(b"count ");
+                line.number(*keys);
+                line.text(b"\n");
+            }
             Answer::Rows(rows) => {
                 line.text(b"region ");
                 line.number(rows.len() as u64);

@@ -1,5 +1,5 @@
 use super::{
-    Answer, RowList, Script, ScriptFault, Why, print_answer, print_refused, read_number,
+    Answer, Command, RowList, Script, ScriptFault, Why, print_answer, print_refused, read_number,
     read_script,
 };
 use dev_model::{MemSink, MemSource};
@@ -23,6 +23,11 @@ fn scripts_are_read(rt: HostRuntime) -> Result<(), Fail> {
         (b"".as_slice(), Ok(0)),
         (b"put 7 3 4 a\nregion dhvb 0 0 9 9", Ok(2)),
         (b"\t put\t007  3 4   a \r\n# no line\n\n", Ok(1)),
+        (b"del 7\n get\t18446744073709551615 \ncount\r\n", Ok(3)),
+        (b"count\ndel\n", Err(2)),
+        (b"get 7 8", Err(1)),
+        (b"count 1", Err(1)),
+        (b"del 18446744073709551616", Err(1)),
         (b"\nput 1 65536 0 -", Err(2)),
         (b"put 18446744073709551616 0 0 -", Err(1)),
         (b"put 000000000000000000007 3 4 a", Err(1)),
@@ -81,6 +86,45 @@ fn row(key: u64, x: u16, note: &[u8]) -> Option<Row> {
         point: Point { x, y: 65535 },
         note,
     })
+}
+
+#[test]
+fn a_line_of_a_key_is_its_command(rt: HostRuntime) -> Result<(), Fail> {
+    let alloc = rt.alloc();
+    let mut source = MemSource::new(b"del 3\nget 4\ncount".to_vec(alloc)?, Vec::new(alloc));
+    let Ok(script) = read_script(alloc, &mut source) else {
+        return Err(Fail::from("the script isn't read"));
+    };
+    match script.setup.as_slice() {
+        [Command::Del(deleted), Command::Get(asked), Command::Count] => {
+            assert_eq!(rt; (*deleted, *asked), (3, 4));
+        }
+        _ => return Err(Fail::from("the script has other commands")),
+    }
+    Ok(())
+}
+
+#[test]
+fn what_stood_at_a_key_is_printed(rt: HostRuntime) -> Result<(), Fail> {
+    let alloc = rt.alloc();
+    let Some(row) = row(1, 40000, &[b'~'; 64]) else {
+        return Err(Fail::from("the row has no note"));
+    };
+    let answers = [
+        Answer::DelNone,
+        Answer::DelOld(row.point, row.note),
+        Answer::GetNone,
+        Answer::GetOld(row.point, row.note),
+        Answer::Counted(u64::MAX),
+    ];
+    let mut out = MemSink::new(alloc, 4096, Vec::new(alloc))?;
+    for answer in &answers {
+        assert!(rt; print_answer(&mut out, 3, 0, answer).is_ok());
+    }
+    let wanted =
+        b"3 0 del none\n3 0 del old 40000 65535 ~~~~~~~~~~~~~~~~~~~~~~~~~~~~~~~~~~~~~~~~~~~~~~~~~~~~~~~~~~~~~~~~\n3 0 get none\n3 0 get 40000 65535 ~~~~~~~~~~~~~~~~~~~~~~~~~~~~~~~~~~~~~~~~~~~~~~~~~~~~~~~~~~~~~~~~\n3 0 count 18446744073709551615\n";
+    assert_eq!(rt; out.taken(), wanted.as_slice());
+    Ok(())
 }
 
 #[test]

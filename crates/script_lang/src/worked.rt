@@ -1,6 +1,6 @@
 // Worked scripts: what the definitions say of them, line by line of the language.
 ghost use Rattle.std.specs.Prelude.{◌≡◌, [], ◌∷◌, ◌++◌, codes, Ok, Err};
-ghost use Rattle.table_model.specs.Commands.{write, put};
+ghost use Rattle.table_model.specs.Commands.{write, put, del, get, count};
 ghost use Rattle.script_lang.specs.Scripts.{script_of, bad_line, too_long};
 ghost use Rattle.script_lang.specs.Examples.{alone, row_7, all_of_nine, long_comment};
 
@@ -8,6 +8,7 @@ ghost use Rattle.script_lang.specs.Examples.{alone, row_7, all_of_nine, long_com
 pub fn worked_scripts()
     ensures nothing { script_of 1000 9 [] ≡ Ok (alone []) }
     ensures two_commands { script_of 1000 9 (codes "put 7 3 4 a\nregion dhvb 0 0 9 9\n") ≡ Ok (alone (write (put row_7) ∷ all_of_nine ∷ [])) }
+    ensures lines_of_a_key { script_of 1000 9 (codes "del 7\nget 18446744073709551615\ncount\n") ≡ Ok (alone (write (del 7) ∷ get 18446744073709551615 ∷ count ∷ [])) }
     ensures last_line_is_open { script_of 1000 9 (codes "put 7 3 4 a") ≡ Ok (alone (write (put row_7) ∷ [])) }
     ensures blanks_and_zeros { script_of 1000 9 (codes "\t put\t007  3 4   a \r\n\n  \t\nregion dhvb 0 0 9 9\r") ≡ Ok (alone (write (put row_7) ∷ all_of_nine ∷ [])) }
     ensures comments { script_of 1000 9 (codes "# a comment\r\n \t#put 1\nput 7 3 4 a") ≡ Ok (alone (write (put row_7) ∷ [])) }
@@ -24,6 +25,10 @@ pub fn worked_refusals()
     ensures no_such_line { script_of 1000 9 (codes "merge 1") ≡ Err (bad_line 1) }
     ensures a_field_too_few { script_of 1000 9 (codes "put 1 0 0") ≡ Err (bad_line 1) }
     ensures a_field_too_many { script_of 1000 9 (codes "put 1 0 0 a #") ≡ Err (bad_line 1) }
+    ensures a_key_too_few { script_of 1000 9 (codes "del") ≡ Err (bad_line 1) }
+    ensures a_key_too_many { script_of 1000 9 (codes "get 1 2") ≡ Err (bad_line 1) }
+    ensures a_great_key_to_get { script_of 1000 9 (codes "get 18446744073709551616") ≡ Err (bad_line 1) }
+    ensures a_count_of_a_key { script_of 1000 9 (codes "count 1") ≡ Err (bad_line 1) }
     ensures a_great_coordinate { script_of 1000 9 (codes "put 1 65536 0 -") ≡ Err (bad_line 1) }
     ensures a_great_key { script_of 1000 9 (codes "put 18446744073709551616 0 0 -") ≡ Err (bad_line 1) }
     ensures twenty_one_digits { script_of 1000 9 (codes "put 000000000000000000007 3 4 a") ≡ Err (bad_line 1) }

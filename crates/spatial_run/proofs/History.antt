@@ -6,8 +6,9 @@ use Rattle.std.proofs.lemmas.List.{map-append, append-nil, take_more}
 use Rattle.table_model.specs.Table.{Table}
 use Rattle.table_model.specs.declared.Why.{Why}
 use Rattle.table_model.specs.declared.Why.TheVariants.{Memory}
-use Rattle.table_model.specs.Commands.{Command, Reply, Outcome, answered, refused}
+use Rattle.table_model.specs.Commands.{Command, write, get, count, region, Reply, Outcome, answered, refused}
 use Rattle.table_model.specs.Answers.{replay, replies, reply_to, table_after}
+use Rattle.table_model.specs.Refusals.{MayRefuse}
 use Rattle.table_model.specs.Record.{HistoryAnswer, lane_answers, IsAnswered, seqs, Rises, IsFor, OneEach}
 use Rattle.script_lang.specs.declared.commands.Command as rust_command
 use Rattle.script_lang.specs.declared.commands.Answer.{Answer}
@@ -15,6 +16,7 @@ use Rattle.script_lang.specs.Views.{command_of, commands_of, reply_of}
 use Rattle.spatial_run.specs.declared.record.Outcome as rust
 use Rattle.spatial_run.specs.declared.record.Outcome.TheVariants as outcomes
 use Rattle.spatial_run.specs.Views.{outcome_of, outcomes_of}
+use Rattle.spatial_run.specs.Memory.{TakesMemory, OnlyMemory}
 use Rattle.spatial_run.specs.Steps.{Ran}
 
 abbrev commands_in : List HistoryAnswer → List Command
@@ -28,6 +30,7 @@ pub record Underway (commands : List Command) (outcomes : List Outcome) (table :
   pub rises : Rises (seqs outcomes ++ seq ∷ [])
   pub answered : IsAnswered empty (lane_answers 0 commands outcomes)
   pub stands : table ≡ replay empty (map (λ e. e.command) (lane_answers 0 commands outcomes))
+  pub only_memory : OnlyMemory commands outcomes
 
 -- one outcome more for one command more
 each_more : (cs : List Command) (os : List Outcome) (c : Command) (o : Outcome) → OneEach cs os → IsFor c o → OneEach (cs ++ c ∷ []) (os ++ o ∷ [])
@@ -42,8 +45,23 @@ each_length [] (o ∷ os) h = absurd h
 each_length (c ∷ cs) [] h = absurd h
 each_length (c ∷ cs) (o ∷ os) h = ap suc (each_length cs os h.1)
 
+-- what takes memory may be refused for it
+may_refuse : (c : Command) → TakesMemory c → MayRefuse c Memory
+may_refuse (write w) takes = tt
+may_refuse (get key) takes = absurd takes
+may_refuse count takes = absurd takes
+may_refuse (region kind r) takes = tt
+
+-- whatever became of the command, in the list of it alone
+only_more : (cs : List Command) (os : List Outcome) (c : Command) (o : Outcome) → length cs ≡ length os → OnlyMemory cs os → OnlyMemory (c ∷ []) (o ∷ []) → OnlyMemory (cs ++ c ∷ []) (os ++ o ∷ [])
+only_more [] [] c o e h p = p
+only_more [] (q ∷ os) c o e h p = absurd (omega arith)
+only_more (d ∷ cs) [] c o e h p = absurd (omega arith)
+only_more (d ∷ cs) (answered s q ∷ os) c o e h p = only_more cs os c o (omega arith) h p
+only_more (d ∷ cs) (refused w ∷ os) c o e h p = (h.0, h.1, only_more cs os c o (omega arith) h.2 p)
+
 pub begins : Underway [] [] empty 0
-begins = record { one_each = tt; rises = tt; answered = refl; stands = refl }
+begins = record { one_each = tt; rises = tt; answered = refl; stands = refl; only_memory = tt }
 
 rises_front : (ns : List ℕ) (n : ℕ) → Rises (ns ++ n ∷ []) → Rises ns
 rises_front [] n h = tt
@@ -95,21 +113,23 @@ one_answered cs os t new seq c r u reply after =
           ∙ (λ i. u.answered i ++ (reply ∙ ap (λ s. reply_to s c) u.stands) i ∷ [])
           ∙ sym (ap (replies empty) commands ∙ replies-more empty (commands_in es) c);
       stands = after ∙ ap (λ s. table_after s c) u.stands ∙ sym (ap (replay empty) commands ∙ replay-more empty (commands_in es) c);
+      only_memory = only_more cs os c (answered seq r) (each_length cs os u.one_each) u.only_memory tt;
     }
 
-pub one_refused : (cs : List Command) (os : List Outcome) (t new : Table) (seq : ℕ) (c : Command) (why : Why) → why ≡ Memory → Underway cs os t seq
-    → new ≡ t → Underway (cs ++ c ∷ []) (os ++ refused why ∷ []) new seq
-one_refused cs os t new seq c why is u same =
-    let more : lane_answers 0 (cs ++ c ∷ []) (os ++ refused why ∷ []) ≡ lane_answers 0 cs os = answers-more 0 cs os c (refused why) (each_length cs os u.one_each) ∙ append-nil (lane_answers 0 cs os) in
+pub one_refused : (cs : List Command) (os : List Outcome) (t new : Table) (seq : ℕ) (c : Command) → TakesMemory c → Underway cs os t seq
+    → new ≡ t → Underway (cs ++ c ∷ []) (os ++ refused Memory ∷ []) new seq
+one_refused cs os t new seq c takes u same =
+    let more : lane_answers 0 (cs ++ c ∷ []) (os ++ refused Memory ∷ []) ≡ lane_answers 0 cs os = answers-more 0 cs os c (refused Memory) (each_length cs os u.one_each) ∙ append-nil (lane_answers 0 cs os) in
     record {
-      one_each = each_more cs os c (refused why) u.one_each is;
-      rises = subst (λ ns. Rises (ns ++ seq ∷ [])) (sym (seqs-refused os why)) u.rises;
+      one_each = each_more cs os c (refused Memory) u.one_each (may_refuse c takes);
+      rises = subst (λ ns. Rises (ns ++ seq ∷ [])) (sym (seqs-refused os Memory)) u.rises;
       answered = subst (λ es. IsAnswered empty es) (sym more) u.answered;
       stands = same ∙ u.stands ∙ ap (λ es. replay empty (commands_in es)) (sym more);
+      only_memory = only_more cs os c (refused Memory) (each_length cs os u.one_each) u.only_memory (refl, takes, tt);
     }
 
 pub all_ran : (cs : List Command) (os : List Outcome) (t : Table) (seq : ℕ) → Underway cs os t seq → Ran cs os
-all_ran cs os t seq u = record { one_each = u.one_each; rises = rises_front (seqs os) seq u.rises; answered = u.answered }
+all_ran cs os t seq u = record { one_each = u.one_each; rises = rises_front (seqs os) seq u.rises; answered = u.answered; only_memory = u.only_memory }
 
 -- one command more of the program's list
 taken_more : (commands : List rust_command.Command) (i : ℕ) (c : rust_command.Command) → i < length commands → c ≡ get_or commands i c
@@ -128,12 +148,12 @@ then_answered commands i c olds news t new seq next a within is u more reply aft
     let now : outcomes_of news ≡ outcomes_of olds ++ answered seq (reply_of a) ∷ [] = ap outcomes_of more ∙ map-append outcome_of olds (outcomes.Answered seq a ∷ []) in
     rw (taken_more commands i c within is, now, counted) step
 
-pub then_refused : (commands : List rust_command.Command) (i : ℕ) (c : rust_command.Command) (olds news : List rust.Outcome) (t new : Table) (seq next : ℕ) (why : Why) → why ≡ Memory
+pub then_refused : (commands : List rust_command.Command) (i : ℕ) (c : rust_command.Command) (olds news : List rust.Outcome) (t new : Table) (seq next : ℕ)
     → i < length commands → c ≡ get_or commands i c → Underway (commands_of (take i commands)) (outcomes_of olds) t seq
-    → news ≡ olds ++ outcomes.Refused why ∷ [] → new ≡ t → next ≡ seq
+    → news ≡ olds ++ outcomes.Refused Memory ∷ [] → TakesMemory (command_of c) → new ≡ t → next ≡ seq
     → Underway (commands_of (take (i + 1) commands)) (outcomes_of news) new next
-then_refused commands i c olds news t new seq next why word within is u more same counted =
-    let step : Underway (commands_of (take i commands) ++ command_of c ∷ []) (outcomes_of olds ++ refused why ∷ []) new seq =
-    one_refused (commands_of (take i commands)) (outcomes_of olds) t new seq (command_of c) why word u same in
-    let now : outcomes_of news ≡ outcomes_of olds ++ refused why ∷ [] = ap outcomes_of more ∙ map-append outcome_of olds (outcomes.Refused why ∷ []) in
+then_refused commands i c olds news t new seq next within is u more takes same counted =
+    let step : Underway (commands_of (take i commands) ++ command_of c ∷ []) (outcomes_of olds ++ refused Memory ∷ []) new seq =
+    one_refused (commands_of (take i commands)) (outcomes_of olds) t new seq (command_of c) takes u same in
+    let now : outcomes_of news ≡ outcomes_of olds ++ refused Memory ∷ [] = ap outcomes_of more ∙ map-append outcome_of olds (outcomes.Refused Memory ∷ []) in
     rw (taken_more commands i c within is, now, counted) step

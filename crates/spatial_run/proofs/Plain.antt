@@ -10,6 +10,7 @@ use Rattle.table_model.specs.Phases.{Phases}
 use Rattle.table_model.specs.Record.{RunRecord, HistoryAnswer, FitsScript, lane_answers, lanes_answers, all_answers, in_order, inserted, history, seqs, Rises, history_text, refusals_text, lanes_refusals_text, record_text, OneEach, OneEachLane, AllApart}
 use Rattle.spatial_run.specs.declared.record.Outcome as rust
 use Rattle.spatial_run.specs.Endings.{is_refused, any_refused, status_of, ran}
+use Rattle.spatial_run.specs.Memory.{OnlyMemory, OnlyMemoryInLanes, RefusesForMemory}
 use Rattle.spatial_run.specs.Views.{outcome_of, outcomes_of}
 use Rattle.spatial_run.specs.Steps.{IsSetupAlone, answers_text, answered_part}
 
@@ -74,6 +75,13 @@ fits_alone s r alone alone' one_each rises = record {
   after_rises = subst (λ os. Rises (seqs os)) (sym alone'.1) tt;
   setup_first = λ i d h j e k. let none : j < 0 = subst (λ l. j < length l) (nothing_after r alone') k in absurd (omega (arith, none));
   after_last = λ i d h j e k. let none : j < 0 = subst (λ os. j < length (seqs os)) alone'.1 k in absurd (omega (arith, none));
+}
+
+pub refuses_alone : (s : Phases Command) (r : RunRecord) → IsSetupAlone s → OnlyMemory s.setup r.setup → RefusesForMemory s r
+refuses_alone s r alone only_memory = record {
+  setup = only_memory;
+  lanes = subst (λ l. OnlyMemoryInLanes l r.lanes) (sym alone.0) tt;
+  after = subst (λ l. OnlyMemory l r.after) (sym alone.1) tt;
 }
 
 any_mapped : (os : List rust.Outcome) → list_any is_refused (outcomes_of os) ≡ list_any (λ o. is_refused (outcome_of o)) os

@@ -12,6 +12,7 @@ use Rattle.table_model.specs.Record.{RunRecord, FitsScript, IsAnswered, history,
 use Rattle.script_lang.specs.declared.limits.TheConstants.{MOST_BYTES, MOST_COMMANDS}
 use Rattle.script_lang.specs.Scripts as script
 use Rattle.script_lang.specs.Scripts.{Wrong, script_of}
+use Rattle.spatial_run.specs.Memory.{RefusesForMemory}
 
 pub data Ending : Type 0 where
   bad_words : Ending
@@ -43,7 +44,8 @@ abbrev pub HasBadScript : Option (List ℕ) → Type 0
 HasBadScript left = IfSome left (λ bytes. IsErr (script_of MOST_BYTES MOST_COMMANDS bytes))
 
 -- Why a call ends so: the words, the source's count of faults before and after, and the bytes that it told. A run's
--- record fits the script, and each of its answers is the table's at its place, from the empty table on.
+-- record fits the script, each of its answers is the table's at its place, from the empty table on, and a command is
+-- refused for want of memory alone.
 abbrev pub IsCause : List (List ℕ) → ℕ → ℕ → Option (List ℕ) → Ending → Type 0
 IsCause words old new left bad_words = (is_serial words ≡ false) × (new ≡ old)
 IsCause words old new left source_fault = (is_serial words ≡ true) × Rose old new
@@ -52,7 +54,7 @@ IsCause words old new left too_long = (is_serial words ≡ true) × (new ≡ old
 IsCause words old new left no_memory = (is_serial words ≡ true) × (new ≡ old)
 IsCause words old new left (ran s r) =
     (is_serial words ≡ true) × (new ≡ old) × IsScript left (Ok s)
-    × FitsScript s r × IsAnswered empty (history s r)
+    × FitsScript s r × IsAnswered empty (history s r) × RefusesForMemory s r
 
 abbrev pub is_refused : Outcome → Bool
 is_refused (answered seq reply) = false

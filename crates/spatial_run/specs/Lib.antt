@@ -1,4 +1,5 @@
 pub mod Endings
 pub mod Entries
+pub mod Memory
 pub mod Steps
 pub mod Views

@@ -6,6 +6,7 @@ use Rattle.table_model.specs.Commands.{Command, Outcome, answered, refused}
 use Rattle.table_model.specs.Phases.{Phases}
 use Rattle.table_model.specs.Record.{FitsScript, IsAnswered, OneEach, Rises, history, lane_answers, seqs}
 use Rattle.table_model.specs.Text.{answer_text, refused_text}
+use Rattle.spatial_run.specs.Memory.{OnlyMemory, RefusesForMemory}
 use Rattle.spatial_run.specs.Endings.{Ending, bad_words, source_fault, bad_line, too_long, no_memory, ran}
 
 -- the commands of one lane were run one after another, from the empty table
@@ -13,6 +14,7 @@ pub record Ran (commands : List Command) (outcomes : List Outcome) : Type 0 wher
   pub one_each : OneEach commands outcomes
   pub rises : Rises (seqs outcomes)
   pub answered : IsAnswered empty (lane_answers 0 commands outcomes)
+  pub only_memory : OnlyMemory commands outcomes
 
 -- what an outcome prints as an answer, the next place, and what it prints as a refusal
 abbrev pub answered_part : ℕ → Outcome → List ℕ
@@ -43,7 +45,7 @@ IsRunOf s source_fault = ⊥
 IsRunOf s (bad_line n) = ⊥
 IsRunOf s too_long = ⊥
 IsRunOf s no_memory = Unit {0}
-IsRunOf s (ran t r) = (t ≡ s) × FitsScript s r × IsAnswered empty (history s r)
+IsRunOf s (ran t r) = (t ≡ s) × FitsScript s r × IsAnswered empty (history s r) × RefusesForMemory s r
 
 -- an ending whose text is that of the setup's outcomes alone
 abbrev pub IsPlain : Ending → Type 0

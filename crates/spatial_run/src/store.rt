@@ -1,11 +1,12 @@
 // The rows of the table in memory, until there is a device.
-ghost use Rattle.std.specs.Prelude.{◌≡◌, map, IfOk, OnOk, OnErr};
+ghost use Rattle.std.specs.Prelude.{◌≡◌, length, map, IfOk, OnOk, OnErr};
 ghost use Rattle.std.specs.Option.{option_map};
 ghost use Rattle.std.specs.FinMap as finite;
 ghost use Rattle.table_model.specs.Table.{place_of, rows_of, rows_inside};
 ghost use Rattle.table_model.specs.Answers.{reply_to, table_after};
 ghost use Rattle.script_lang.specs.Views.{reply_of, command_of};
 ghost use Rattle.spatial_run.specs.Entries.{place_in, row_in};
+ghost use Rattle.spatial_run.specs.Memory.{TakesMemory};
 
 use geo_base::{Note, Point, Rect, Row};
 use script_lang::{Answer, Command, RowList};
@@ -52,6 +53,28 @@ impl Store {
         Ok(self.rows.insert(row.key, (row.point, row.note))?)
     }
 
+    /// Takes out what stands at the key, and answers it.
+    pub fn del(&mut self, key: u64) -> Option<(Point, Note)>
+        ensures old { option_map place_in result ≡ finite.get self.old key }
+        ensures without { self.new ≡ finite.remove self.old key }
+    {
+        self.rows.remove(&key)
+    }
+
+    /// What stands at the key.
+    pub fn get(&self, key: u64) -> Option<(Point, Note)>
+        ensures { option_map place_in result ≡ finite.get self.now key }
+    {
+        self.rows.get(&key).copied()
+    }
+
+    /// How many keys there are.
+    pub fn count(&self) -> u64
+        ensures { result ≡ length (rows_of self.now) }
+    {
+        self.rows.len() as u64
+    }
+
     /// The rows inside a rectangle, ascending by key.
     pub fn region(&self, alloc: Global, rect: &Rect) -> Result<RowList, AllocError>
         ensures { IfOk result (λ list. list.items ≡ rows_inside rect.now (rows_of self.now)) }
@@ -59,17 +82,27 @@ impl Store {
         inside(alloc, &self.rows, rect)
     }
 
-    /// Answers a command. Where memory is refused nothing changes.
+    /// Answers a command. Where memory is refused, which only some commands take, nothing changes.
     pub fn answer(&mut self, alloc: Global, command: &Command) -> Result<Answer, AllocError>
         ensures reply { IfOk result (λ a. reply_of a ≡ reply_to self.old (command_of command.now)) }
         ensures ok { OnOk result (self.new ≡ table_after self.old (command_of command.now)) }
         ensures err { OnErr result (self.new ≡ self.old) }
+        ensures takes { OnErr result (TakesMemory (command_of command.now)) }
     {
         match command {
             Command::Put(row) => match self.put(row)? {
                 None => Ok(Answer::PutNew),
                 Some((point, note)) => Ok(Answer::PutOld(point, note)),
             },
+            Command::Del(key) => match self.del(*key) {
+                None => Ok(Answer::DelNone),
+                Some((point, note)) => Ok(Answer::DelOld(point, note)),
+            },
+            Command::Get(key) => match self.get(*key) {
+                None => Ok(Answer::GetNone),
+                Some((point, note)) => Ok(Answer::GetOld(point, note)),
+            },
+            Command::Count => Ok(Answer::Counted(self.count())),
             Command::Region(_, rect) => Ok(Answer::Rows(self.region(alloc, rect)?)),
         }
     }

@@ -15,8 +15,8 @@ use std::alloc::Global;
 /// 1, the words are others; 3, the source failed; 2, the script holds a bad line or is too long; 4, the sink failed,
 /// and what is out is a front of the text; 8, memory was refused; and else 0.
 pub fn run_top<R: Source, K: Sink>(alloc: Global, words: &[&str], script: &mut R, out: &mut K) -> u8
-    // What is printed is one history of a plain table, each command answered as the table answers at that place; and
-    // each other ending and status has its cause.
+    // What is printed is one history of a plain table, each command answered as the table answers at that place; a
+    // put or a region alone is ever refused, for want of memory; and each other ending and status has its cause.
     ensures headline { Ends (map (λ w. w.now) words.now)
         (R.fault_count script.old) (R.fault_count script.new) (R.left script.old)
         (K.fault_count out.old) (K.fault_count out.new) (K.taken out.old) (K.taken out.new) result }

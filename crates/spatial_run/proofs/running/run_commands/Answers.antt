@@ -1,6 +1,5 @@
-use Rattle.std.proofs.Common.{◌≡◌, ◌∙◌, ap, arith, refl, take}
+use Rattle.std.proofs.Common.{◌≡◌, ◌∙◌, ap, arith, take}
 use Rattle.std.proofs.lemmas.List.{take_all}
-use Rattle.table_model.specs.declared.Why.TheVariants.{Memory}
 use Rattle.script_lang.specs.Views.{commands_of}
 use Rattle.spatial_run.specs.Views.{outcomes_of}
 use Rattle.spatial_run.proofs.History.{then_answered, then_refused, all_ran}
@@ -19,8 +18,8 @@ loop-command-preserved c =
       }
       | in-Err w ↦ record {
         underway = then_refused c.args.commands.now c.loop-command.command-index c.command-item.result c.loop-command.outcomes.items c.match-answer.outcomes.items
-            c.loop-command.store c.answer.new.self c.loop-command.seq c.match-answer.seq Memory refl (omega arith) c.command-item.is
-            c.loop-command.invariant.underway (ap (λ l. l.items) w.outcomes-is ∙ w.add-in-Err.ensures.items) w.in-Err.ensures.err w.seq-is;
+            c.loop-command.store c.answer.new.self c.loop-command.seq c.match-answer.seq (omega arith) c.command-item.is
+            c.loop-command.invariant.underway (ap (λ l. l.items) w.outcomes-is ∙ w.add-in-Err.ensures.items) w.in-Err.ensures.takes w.in-Err.ensures.err w.seq-is;
         room = rw w.outcomes-is (omega arith);
         small = rw w.seq-is (omega arith);
       }
