@@ -62,7 +62,7 @@ pub record NeedsLook (m : Machine) (look : Look) : Type 0 where
   pub frozen : look.frozen ≡ false
   pub lanes : look.lanes ≡ 0
   pub placed : look.placed ≡ 0
-  pub lsn : look.lsn + 1 ≡ m.next_lsn
+  pub lsn : look.lsn ≡ m.next_lsn - 1
 
 -- an answered region, through whichever index
 pub record NeedsRegion (known : Bool) (m : Machine) (kind : IndexKind) (rect : Corners) (found : Found) : Type 0 where

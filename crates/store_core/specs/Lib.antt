@@ -1,0 +1,5 @@
+pub mod Entries
+pub mod Openings
+pub mod Read
+pub mod Restored
+pub mod Stores

@@ -1,0 +1,35 @@
+-- Why an opening is refused.
+use Rattle.std.specs.Prelude.{◌≡◌, ℕ, Option}
+use Rattle.dev_model.specs.Counts.{Rose}
+use Rattle.dev_model.specs.Story.{Bytes, Story, bytes_of, WhereTold, IsCalmAt}
+use Rattle.wal_log.specs.Segments.{segments_of}
+use Rattle.wal_log.specs.Rules.{IsBad}
+use Rattle.image_model.specs.Superblock.{IsFormatted}
+use Rattle.image_model.specs.Directory.{HasNoComponent, IsBadSlot}
+use Rattle.image_model.specs.Opening.{ends, IsLookedAt}
+use Rattle.store_machine.specs.Standing.{DeviceState}
+use Rattle.store_core.specs.declared.opening.OpenFault.{OpenFault}
+use Rattle.store_core.specs.declared.opening.OpenFault.TheVariants.{NotFormatted, BadSlot, BadLog, Fault, OutOfMemory}
+
+-- What a refusal says of the bytes of a device of so many pages. The first that holds is the one that is answered. Faults and
+-- want of memory say nothing of them.
+abbrev pub IsRefusal : (pages : ℕ) → OpenFault → Bytes → Type 0
+IsRefusal pages NotFormatted bytes = IsFormatted pages bytes → ⊥
+IsRefusal pages (BadSlot n) bytes = IsFormatted pages bytes × IsBadSlot n bytes
+IsRefusal pages (BadLog k) bytes = IsFormatted pages bytes × HasNoComponent bytes × IsBad ends (segments_of bytes) k
+IsRefusal pages Fault bytes = Unit {0}
+IsRefusal pages OutOfMemory bytes = Unit {0}
+
+-- a fault of the device has a count that rose
+abbrev pub HasFaulted : (before now : ℕ) → OpenFault → Type 0
+HasFaulted before now Fault = Rose before now
+HasFaulted before now NotFormatted = Unit {0}
+HasFaulted before now (BadSlot n) = Unit {0}
+HasFaulted before now (BadLog k) = Unit {0}
+HasFaulted before now OutOfMemory = Unit {0}
+
+-- A refused opening: what the refusal says holds of the bytes, where the device told them and all that an opening looks at was
+-- on the disk.
+pub record IsRefused (old new : DeviceState) (fault : OpenFault) : Type 0 where
+  pub holds : WhereTold old.story (λ s. IsCalmAt (IsLookedAt (bytes_of s)) s → IsRefusal old.pages fault (bytes_of s))
+  pub faulted : HasFaulted old.faults new.faults fault

@@ -1,0 +1,12 @@
+//! A store on a device, which logs each write before it answers.
+#![tactic(auto)]
+
+mod opening;
+mod region;
+mod rows;
+mod store;
+mod writing;
+
+pub use opening::OpenFault;
+pub use region::RegionRows;
+pub use store::Store;
