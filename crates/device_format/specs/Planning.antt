@@ -1,5 +1,5 @@
 -- The calls of a device that formatting it makes.
-use Rattle.std.specs.Prelude.{◌≡◌, ℕ, zero, suc, List, [], ◌∷◌, ◌++◌, Bool, if◌then◌else◌, Option, ◌==◌}
+use Rattle.std.specs.Prelude.{◌≡◌, ◌+◌, ℕ, zero, suc, List, [], ◌∷◌, ◌++◌, Bool, if◌then◌else◌, Option, Result, ◌==◌}
 use Rattle.dev_model.specs.Story.{Read, Write, Sync, Call, Calls, Story, WhereTold, Did, Ticks, IsReadable, bytes_of}
 use Rattle.wal_log.specs.Places.{segment_start}
 use Rattle.wal_log.specs.State.{start_calls}
@@ -23,7 +23,7 @@ close_superblock_if is_open = if is_open then close_gate 0 ∷ Sync ∷ [] else 
 
 -- the gate of each slot and the gate of each segment's header, and one sync
 abbrev pub close_gates : Calls
-close_gates = close_each slot_start SLOTS ++ close_each segment_start 4 ++ Sync ∷ []
+close_gates = close_each slot_start SLOTS ++ (close_each segment_start 4 ++ Sync ∷ [])
 
 -- segment 0 with generation 0, in which the first record will have the number 1
 abbrev pub start_log : Calls
@@ -33,16 +33,17 @@ start_log = start_calls 0 0 1
 abbrev pub write_superblock : (indexes pages : ℕ) → Calls
 write_superblock indexes pages = Write 1 (superblock_bytes indexes pages) ∷ Sync ∷ Write 0 (OPEN ∷ []) ∷ Sync ∷ []
 
--- all that is done once it is known whether the superblock's gate is open
-abbrev pub calls_behind : (is_open : Bool) (indexes pages : ℕ) → Calls
-calls_behind is_open indexes pages = close_superblock_if is_open ++ close_gates ++ start_log ++ write_superblock indexes pages
-
-abbrev pub format_calls : (is_open : Bool) (indexes pages : ℕ) → Calls
-format_calls is_open indexes pages = Read 0 1 ∷ calls_behind is_open indexes pages
+-- the empty store, written over a superblock that is open or closed
+abbrev pub write_calls : (is_open : Bool) (indexes pages : ℕ) → Calls
+write_calls is_open indexes pages = close_superblock_if is_open ++ (close_gates ++ (start_log ++ write_superblock indexes pages))
 
 -- how many calls these are
-abbrev pub format_ticks : Bool → ℕ
-format_ticks is_open = if is_open then 528 else 526
+abbrev pub write_ticks : Bool → ℕ
+write_ticks is_open = if is_open then 527 else 525
+
+-- all calls of a format: it looks first whether the superblock is open
+abbrev pub format_calls : (is_open : Bool) (indexes pages : ℕ) → Calls
+format_calls is_open indexes pages = Read 0 1 ∷ write_calls is_open indexes pages
 
 -- what a read of the superblock's gate tells
 abbrev pub TellsGate : Bool → Story → Type 0
@@ -53,4 +54,4 @@ pub record Formats {X E : Type 0} (indexes pages : ℕ) (old new : Option Story)
   pub is_open : Bool
   pub told : WhereTold old (TellsGate is_open)
   pub did : Did (format_calls is_open indexes pages) old new result
-  pub ticks : Ticks (format_ticks is_open) clock clock_after result
+  pub ticks : Ticks (1 + write_ticks is_open) clock clock_after result

@@ -1,10 +1,10 @@
 // The whole of a format, in its order.
 ghost use Rattle.std.specs.Prelude.{◌≡◌, ◌≤◌, OnOk};
 ghost use Rattle.dev_model.specs.Counts.{HasCause};
-ghost use Rattle.dev_model.specs.Story.{WhereTold, IsCalmAt, bytes_of};
+ghost use Rattle.dev_model.specs.Story.{WhereTold, IsCalmAt, Did, Ticks, bytes_of};
 ghost use Rattle.dev_model.specs.Moments.{LeavesOnly};
 ghost use Rattle.image_model.specs.Opening.{IsLookedAt};
-ghost use Rattle.device_format.specs.Planning.{Formats};
+ghost use Rattle.device_format.specs.Planning.{Formats, write_calls, write_ticks};
 ghost use Rattle.device_format.specs.Formatting.{IsFreshStore, IsBeforeOrAfter};
 
 use crate::gates::{close_gates, close_superblock_if, is_superblock_open};
@@ -36,6 +36,17 @@ pub fn format_dev<D: Device>(device: &mut D, indexes: IndexSet) -> Result<(), Fa
     ensures cause { HasCause (D.fault_count device.old) (D.fault_count device.new) result }
 {
     let is_open = is_superblock_open(device)?;
+    write_store(device, is_open, indexes)
+}
+
+/// Writes the empty store, over a superblock that is open or closed.
+fn write_store<D: Device>(device: &mut D, is_open: bool, indexes: IndexSet) -> Result<(), Failed>
+    requires { LOG_PAGES ≤ D.pages device.old }
+    ensures did { Did (write_calls is_open indexes (D.pages device.old)) (D.story device.old) (D.story device.new) result }
+    ensures ticks { Ticks (write_ticks is_open) (D.clock device.old) (D.clock device.new) result }
+    ensures same_pages { D.pages device.new ≡ D.pages device.old }
+    ensures cause { HasCause (D.fault_count device.old) (D.fault_count device.new) result }
+{
     close_superblock_if(device, is_open)?;
     close_gates(device)?;
     start_segment(device, 0, 0, 1)?;

@@ -1,5 +1,5 @@
 // The gates that are closed before anything else is written.
-ghost use Rattle.std.specs.Prelude.{◌≡◌, ◌≤◌, ◌∷◌, [], IfOk, OnOk};
+ghost use Rattle.std.specs.Prelude.{◌≡◌, ◌≤◌, ◌∷◌, [], IfOk, if◌then◌else◌};
 ghost use Rattle.dev_model.specs.Counts.{HasCause};
 ghost use Rattle.dev_model.specs.Story.{WhereTold, Read, Did, Ticks};
 ghost use Rattle.image_model.specs.Directory.{slot_start};
@@ -53,6 +53,7 @@ pub fn close_gates<D: Device>(device: &mut D) -> Result<(), Failed>
     device.sync()
 }
 
+#[tactic(auto, using(crate::proofs::Closing::close_none, crate::proofs::Closing::close_more))]
 fn close_slots<D: Device>(device: &mut D) -> Result<(), Failed>
     requires { LOG_PAGES ≤ D.pages device.old }
     ensures did { Did (close_each slot_start SLOTS) (D.story device.old) (D.story device.new) result }
@@ -66,6 +67,7 @@ fn close_slots<D: Device>(device: &mut D) -> Result<(), Failed>
     Ok(())
 }
 
+#[tactic(auto, using(crate::proofs::Closing::close_none, crate::proofs::Closing::close_more))]
 fn close_headers<D: Device>(device: &mut D) -> Result<(), Failed>
     requires { LOG_PAGES ≤ D.pages device.old }
     ensures did { Did (close_each segment_start 4) (D.story device.old) (D.story device.new) result }
