@@ -159,8 +159,9 @@ fn close_header<D: Device>(device: &mut D, k: u8) -> Result<(), Failed>
     Ok(())
 }
 
-/// Starts a segment whose header is closed.
-fn start_segment<D: Device>(
+/// Starts a segment whose header is closed, without a record: writes the header with the closed gate of the segment's first
+/// record, syncs, opens the header's gate and syncs. It stops at the call that fails.
+pub fn start_segment<D: Device>(
     device: &mut D,
     k: u8,
     generation: u64,
@@ -169,6 +170,7 @@ fn start_segment<D: Device>(
     requires below { k < 4 }
     requires pages { LOG_PAGES ≤ D.pages device.old }
     ensures did { Did (start_calls k generation first_lsn) (D.story device.old) (D.story device.new) result }
+    ensures ticks { Ticks 4 (D.clock device.old) (D.clock device.new) result }
     ensures same_pages { D.pages device.new ≡ D.pages device.old }
     ensures cause { HasCause (D.fault_count device.old) (D.fault_count device.new) result }
 {

@@ -1,0 +1,234 @@
+-- What a crash leaves at each moment of a format, and what stands after it.
+use Rattle.std.proofs.Common.{◌≡◌, ◌≢◌, ◌⊎◌, inl, inr, ⊎_elim, ℕ, ◌+◌, ◌-◌, ◌<◌, ◌≤◌, List, [], ◌∷◌, ◌++◌, Bool, true, false, ◌==◌, get_or, Option, Some, None, Result, Ok, Err, refl, sym, ◌∙◌, ap, subst, arith}
+use Rattle.std.specs.Prelude.{OnOk, IsErr}
+use Rattle.std.proofs.lemmas.Bool.{cases_eq}
+use Rattle.std.proofs.lemmas.Bool.Decides.{nat_tests}
+use Rattle.std.proofs.lemmas.Option.{same_Some}
+use Rattle.dev_model.specs.Story.{Bytes, Call, Calls, Story, Read, Write, Sync, after, with_call, bytes_of, patched, all_noted, Did, HasStoppedIn, WhereTold, IsCalmAt, IsReadable, IsSettled, IsSpared, IsInside, IsImageDuring, IsImageNow}
+use Rattle.dev_model.specs.Moments.{LeavesOnly, AreSpared}
+use Rattle.dev_model.specs.Laws.Frame.{IsSettled-spared, bytes_of-spared}
+use Rattle.dev_model.specs.Laws.Images.{IsReadable-settled}
+use Rattle.dev_model.specs.Laws.Plans.{LeavesOnly-did, Did-untold, all_noted-told, no_story}
+use Rattle.dev_model.specs.Laws.Ranges.{patched-outside, patched-inside}
+use Rattle.dev_model.specs.Laws.Runs.{During, after-append}
+use Rattle.image_model.specs.Opening.{IsLookedAt}
+use Rattle.device_format.specs.Planning.{close_superblock_if, close_gates, start_log, write_superblock, write_calls, write_ticks, format_calls, TellsGate, Formats}
+use Rattle.device_format.specs.Formatting.{IsEmptyStore, IsFreshStore, IsUnformatted, LooksAs, IsBeforeOrAfter}
+use Rattle.device_format.proofs.Joining.{During-join}
+use Rattle.device_format.proofs.Ready.{IsReady, IsBehindGate, ready-same, ready-store, ready-looked}
+use Rattle.device_format.proofs.Zeros.{closed-gates, spared-gates}
+use Rattle.device_format.proofs.Preparing.{IsPrepared, write_fields, prepared}
+
+-- the superblock's gate is closed, and that is on the disk
+pub record IsShut (s : Story) : Type 0 where
+  pub settled : IsSettled s.past 0
+  pub closed : bytes_of s 0 ≢ 165
+
+-- calls that leave the gate alone leave it closed, and so does a crash during them
+shut_after : (s : Story) (calls : Calls) → IsShut s → AreSpared calls 0 → IsShut (after s calls)
+shut_after s calls shut spared = record {
+  settled = IsSettled-spared s calls 0 spared shut.settled;
+  closed = λ is_open. shut.closed (sym (bytes_of-spared s calls 0 spared) ∙ is_open);
+}
+
+unformatted_during : (s : Story) (calls : Calls) (P : Bytes → Type 0) → ((image : Bytes) → IsUnformatted image → P image) → IsShut s → AreSpared calls 0 → During s calls P
+unformatted_during s [] P so shut spared = tt
+unformatted_during s (call ∷ calls) P so shut spared = (
+  λ image is. so image (λ is_open. shut.closed (sym (is 0 spared.0 shut.settled) ∙ is_open)),
+  unformatted_during (with_call s call) calls P so (shut_after s (call ∷ []) shut (spared.0, tt)) spared.1,
+)
+
+-- the opening of the gate
+module _ (pages indexes : ℕ) (few : indexes ≤ 31) (s : Story) (ready : IsPrepared pages indexes s) where
+  abbrev open_gate : Calls
+  open_gate = Write 0 (165 ∷ []) ∷ Sync ∷ []
+
+  beside : (i : ℕ) → IsBehindGate i → 0 < i
+  beside i (inl field) = field.0
+  beside i (inr (inl slot)) = omega (arith, slot.2)
+  beside i (inr (inr (inl head))) = omega (arith, head.2)
+  beside i (inr (inr (inr first))) = omega (arith, first.0)
+
+  outside : (i : ℕ) → IsBehindGate i → bytes_of (after s open_gate) i ≡ bytes_of s i
+  outside i behind = patched-outside 0 (165 ∷ []) (bytes_of s) i (inr (omega (arith, beside i behind)))
+
+  opened : bytes_of (after s open_gate) 0 ≡ 165
+  opened = patched-inside 0 (165 ∷ []) (bytes_of s) 0 (record { from = omega arith; to = omega arith })
+
+  ready_after : IsReady pages indexes (bytes_of (after s open_gate))
+  ready_after = ready-same pages indexes (bytes_of s) (bytes_of (after s open_gate)) outside ready.ready
+
+  -- an image whose gate is open has all that stands behind it
+  store_behind : (image : Bytes) → ((i : ℕ) → IsBehindGate i → image i ≡ bytes_of s i) → IsUnformatted image ⊎ IsEmptyStore pages indexes image
+  store_behind image same = elim (cases_eq (image 0) 165) [
+    | inl is_open ↦ inr (ready-store pages indexes image (ready-same pages indexes (bytes_of s) image same ready.ready) few is_open)
+    | inr shut ↦ inl shut
+  ]
+
+  pub opening : (P : Bytes → Type 0) → ((image : Bytes) → IsUnformatted image ⊎ IsEmptyStore pages indexes image → P image) → During s open_gate P
+  opening P so = (
+    λ image is. so image (store_behind image (λ i behind. is i (inr (omega (arith, beside i behind))) (ready.settled i behind))),
+    (λ image is. so image (store_behind image (λ i behind. is i tt (inr (omega (arith, beside i behind)), ready.settled i behind) ∙ outside i behind)), tt),
+  )
+
+  settled_after : (i : ℕ) → (i ≡ 0) ⊎ IsBehindGate i → IsSettled (after s open_gate).past i
+  settled_after i (inl gate) = inl (record { from = omega arith; to = omega (arith, gate) })
+  settled_after i (inr behind) = inr (IsReadable-settled s.past i (ready.settled i behind))
+
+  pub fresh : IsFreshStore pages indexes (after s open_gate)
+  fresh = record {
+    calm = λ i looked. settled_after i (ready-looked pages indexes (bytes_of (after s open_gate)) ready_after i looked);
+    store = ready-store pages indexes (bytes_of (after s open_gate)) ready_after few opened;
+  }
+
+  pub fresh_image : (image : Bytes) → IsImageNow (after s open_gate) image → IsEmptyStore pages indexes image
+  fresh_image image is =
+      ready-store pages indexes image
+      (ready-same pages indexes (bytes_of (after s open_gate)) image (λ i behind. is i (settled_after i (inr behind))) ready_after)
+      few (is 0 (settled_after 0 (inl refl)) ∙ opened)
+
+-- all behind the closing of the superblock
+module _ (pages indexes : ℕ) (few : indexes ≤ 31) (s : Story) where
+  abbrev closed_end : Story
+  closed_end = after s close_gates
+
+  abbrev started_end : Story
+  started_end = after closed_end start_log
+
+  abbrev prepared_end : Story
+  prepared_end = after started_end (write_fields indexes pages)
+
+  abbrev rest : Calls
+  rest = close_gates ++ (start_log ++ write_superblock indexes pages)
+
+  is_prepared : IsPrepared pages indexes prepared_end
+  is_prepared = prepared pages indexes closed_end (closed-gates s)
+
+  rest_is : after s rest ≡ after prepared_end (Write 0 (165 ∷ []) ∷ Sync ∷ [])
+  rest_is = after-append s close_gates (start_log ++ write_superblock indexes pages) ∙ after-append closed_end start_log (write_superblock indexes pages)
+
+  pub rest_fresh : IsFreshStore pages indexes (after s rest)
+  rest_fresh = subst (IsFreshStore pages indexes) (sym rest_is) (fresh pages indexes few prepared_end is_prepared)
+
+  pub rest_image : (image : Bytes) → IsImageNow (after s rest) image → IsEmptyStore pages indexes image
+  rest_image image is = fresh_image pages indexes few prepared_end is_prepared image (subst (λ (t : Story). IsImageNow t image) rest_is is)
+
+  spared_log : AreSpared start_log 0
+  spared_log = (inl (omega arith), (tt, (inl (omega arith), (tt, tt))))
+
+  pub rest_during : IsShut s → (P : Bytes → Type 0) → ((image : Bytes) → IsUnformatted image ⊎ IsEmptyStore pages indexes image → P image) → During s rest P
+  rest_during shut P so =
+      let shut_closed : IsShut closed_end = shut_after s close_gates shut spared-gates in
+      let shut_started : IsShut started_end = shut_after closed_end start_log shut_closed spared_log in
+      let unformatted : (image : Bytes) → IsUnformatted image → P image = λ image is. so image (inl is) in
+      During-join s close_gates (start_log ++ write_superblock indexes pages) P (unformatted_during s close_gates P unformatted shut spared-gates)
+      (During-join closed_end start_log (write_superblock indexes pages) P (unformatted_during closed_end start_log P unformatted shut_closed spared_log)
+      (During-join started_end (write_fields indexes pages) (Write 0 (165 ∷ []) ∷ Sync ∷ []) P (unformatted_during started_end (write_fields indexes pages) P unformatted shut_started (inl (omega arith), (tt, tt)))
+      (opening pages indexes few prepared_end is_prepared P so)))
+
+-- what the gate is read as
+gate-open : (gate : ℕ) → true ≡ (gate == 165) → gate ≡ 165
+gate-open gate is = grind (arith, nat_tests)
+
+gate-shut : (gate : ℕ) → false ≡ (gate == 165) → gate ≢ 165
+gate-shut gate is = grind (arith, nat_tests)
+
+-- the closing of the superblock, on a device that is calm where an opening looks
+module _ (s : Story) (calm : IsCalmAt (IsLookedAt (bytes_of s)) s) where
+  gate_settled : IsSettled s.past 0
+  gate_settled = calm 0 (inl (inl refl))
+
+  first_or_behind : (i : ℕ) → (i ≡ 0) ⊎ (1 ≤ i)
+  first_or_behind i = grind arith
+
+  -- an image that has all but the gate, where the gate was open
+  old_or_none : bytes_of s 0 ≡ 165 → (image : Bytes) → ((i : ℕ) → 1 ≤ i → IsSettled s.past i → image i ≡ bytes_of s i) → LooksAs (bytes_of s) image ⊎ IsUnformatted image
+  old_or_none was_open image same = elim (cases_eq (image 0) 165) [
+    | inl is_open ↦ inl (λ i looked. ⊎_elim (λ gate. ap image gate ∙ is_open ∙ sym was_open ∙ ap (bytes_of s) (sym gate)) (λ behind. same i behind (calm i looked)) (first_or_behind i))
+    | inr shut ↦ inr shut
+  ]
+
+  pub closing_during : (is_open : Bool) → is_open ≡ (bytes_of s 0 == 165) → (P : Bytes → Type 0) → ((image : Bytes) → LooksAs (bytes_of s) image ⊎ IsUnformatted image → P image)
+      → During (with_call s (Read 0 1)) (close_superblock_if is_open) P
+  closing_during false is P so = tt
+  closing_during true is P so =
+      let was_open : bytes_of s 0 ≡ 165 = gate-open (bytes_of s 0) is in
+      (
+        λ image during. so image (old_or_none was_open image (λ i behind settled. during i (inr behind) settled)),
+        (λ image during. so image (old_or_none was_open image (λ i behind settled. during i tt (inr behind, settled) ∙ patched-outside 0 (0 ∷ []) (bytes_of s) i (inr behind))), tt),
+      )
+
+  pub closing_shut : (is_open : Bool) → is_open ≡ (bytes_of s 0 == 165) → IsShut (after (with_call s (Read 0 1)) (close_superblock_if is_open))
+  closing_shut false is = record { settled = gate_settled; closed = gate-shut (bytes_of s 0) is }
+  closing_shut true is = record {
+    settled = inl (record { from = omega arith; to = omega arith });
+    closed = λ is_open.
+        let byte : patched 0 (0 ∷ []) (bytes_of s) 0 ≡ 0 = patched-inside 0 (0 ∷ []) (bytes_of s) 0 (record { from = omega arith; to = omega arith }) in
+        omega (arith, byte, is_open);
+  }
+
+-- all calls, planned
+module _ (pages indexes : ℕ) (few : indexes ≤ 31) (s : Story) (is_open : Bool) where
+  abbrev read : Story
+  read = with_call s (Read 0 1)
+
+  abbrev shut_end : Story
+  shut_end = after read (close_superblock_if is_open)
+
+  all_is : after s (format_calls is_open indexes pages) ≡ after shut_end (rest pages indexes few s)
+  all_is = after-append read (close_superblock_if is_open) (rest pages indexes few s)
+
+  pub all_fresh : IsFreshStore pages indexes (after s (format_calls is_open indexes pages))
+  all_fresh = subst (IsFreshStore pages indexes) (sym all_is) (rest_fresh pages indexes few shut_end)
+
+  all_image : (image : Bytes) → IsImageNow (after s (format_calls is_open indexes pages)) image → IsEmptyStore pages indexes image
+  all_image image is = rest_image pages indexes few shut_end image (subst (λ (t : Story). IsImageNow t image) all_is is)
+
+  all_during : IsCalmAt (IsLookedAt (bytes_of s)) s → is_open ≡ (bytes_of s 0 == 165) → During s (format_calls is_open indexes pages) (IsBeforeOrAfter pages indexes (bytes_of s))
+  all_during calm is = (
+    λ image during. inl (λ i looked. during i tt (calm i looked)),
+    During-join read (close_superblock_if is_open) (rest pages indexes few s) (IsBeforeOrAfter pages indexes (bytes_of s))
+        (closing_during s calm is_open is (IsBeforeOrAfter pages indexes (bytes_of s)) (λ image left. ⊎_elim (λ old. inl old) (λ none. inr (inl none)) left))
+        (rest_during pages indexes few shut_end (closing_shut s calm is_open is) (IsBeforeOrAfter pages indexes (bytes_of s)) (λ image left. inr left)),
+  )
+
+  pub all_moments : {X E : Type 0} (old new : Option Story) (result : Result X E) → old ≡ Some s → Did (format_calls is_open indexes pages) old new result
+      → IsCalmAt (IsLookedAt (bytes_of s)) s → is_open ≡ (bytes_of s 0 == 165) → LeavesOnly s new (IsBeforeOrAfter pages indexes (bytes_of s))
+  all_moments old new result told did calm is =
+      LeavesOnly-did s (format_calls is_open indexes pages) (IsBeforeOrAfter pages indexes (bytes_of s)) old new result told did (all_during calm is) (λ image now. inr (inr (all_image image now)))
+
+-- the two clauses that follow from the calls
+pub formatted : (X E : Type 0) (indexes pages clock clock_after : ℕ) (old new : Option Story) (result : Result X E) → indexes ≤ 31 → Formats indexes pages old new clock clock_after result
+    → OnOk result (WhereTold new (IsFreshStore pages indexes))
+formatted X E indexes pages clock clock_after old new (Err e) few is = tt
+formatted X E indexes pages clock clock_after None new (Ok x) few is = λ t now.
+    no_story t (sym (Did-untold {T = X} {E = E} (format_calls is.is_open indexes pages) new (Ok x) is.did) ∙ now)
+formatted X E indexes pages clock clock_after (Some s) new (Ok x) few is = λ t now.
+    subst (IsFreshStore pages indexes) (same_Some _ _ (sym (is.did ∙ all_noted-told s (format_calls is.is_open indexes pages) (Some s) refl) ∙ now)) (all_fresh pages indexes few s is.is_open)
+
+pub any_moment : (X E : Type 0) (indexes pages clock clock_after : ℕ) (old new : Option Story) (result : Result X E) → indexes ≤ 31 → Formats indexes pages old new clock clock_after result
+    → WhereTold old (λ s. IsCalmAt (IsLookedAt (bytes_of s)) s → LeavesOnly s new (IsBeforeOrAfter pages indexes (bytes_of s)))
+any_moment X E indexes pages clock clock_after old new result few is s told calm =
+    all_moments pages indexes few s is.is_open old new result told is.did calm (is.told s told (IsReadable-settled s.past 0 (calm 0 (inl (inl refl)))))
+
+-- a read of the gate that failed
+more_ticks : (is_open : Bool) (clock clock_after : ℕ) → clock_after ≤ clock + 1 → clock_after ≤ clock + (1 + write_ticks is_open)
+more_ticks true clock clock_after few = omega arith
+more_ticks false clock clock_after few = omega arith
+
+pub not_read : (X E : Type 0) (indexes pages clock clock_after : ℕ) (old new : Option Story) (result : Result X E) → IsErr result → HasStoppedIn (Read 0 1 ∷ []) old new → (clock ≤ clock_after) × (clock_after ≤ clock + 1)
+    → Formats indexes pages old new clock clock_after result
+not_read X E indexes pages clock clock_after old new (Ok x) failed stopped ticks = cc
+not_read X E indexes pages clock clock_after None new (Err e) failed (inl stopped) ticks = record {
+  is_open = false;
+  told = λ s is. no_story s is;
+  did = inl stopped;
+  ticks = (ticks.0, more_ticks false clock clock_after ticks.1);
+}
+not_read X E indexes pages clock clock_after (Some s) new (Err e) failed (inl stopped) ticks = record {
+  is_open = bytes_of s 0 == 165;
+  told = λ t is readable. ap (λ (u : Story). bytes_of u 0 == 165) (same_Some s t is);
+  did = inl stopped;
+  ticks = (ticks.0, more_ticks (bytes_of s 0 == 165) clock clock_after ticks.1);
+}
+not_read X E indexes pages clock clock_after old new (Err e) failed (inr more) ticks = absurd more

@@ -1,0 +1,13 @@
+use Rattle.std.proofs.Common.{ℕ, ◌+◌, ◌*◌, ap, arith, rules}
+use Rattle.image_model.specs.Directory.{slot_start}
+use Rattle.dev_model.specs.Story.{HasStoppedIn}
+use Rattle.device_format.specs.Planning.{close_each}
+use Rattle.device_format.proofs.Closing.{close_stopped}
+use Rattle.device_format.proofs.gates.close_slots.Goals as goal
+
+pub returns-in_err-write-clause-did : goal.returns-in_err-write-clause-did
+returns-in_err-write-clause-did g c =
+    let stopped : HasStoppedIn (close_each slot_start 512) (g.D.Device.story c.args.device.now) (g.D.Device.story c.write.new.self) =
+    close_stopped slot_start c.loop-slot.slot 512 (4096 + 64 * c.from.result) (g.D.Device.story c.args.device.now) (g.D.Device.story c.loop-slot.device) (g.D.Device.story c.write.new.self)
+    (omega (arith, c.loop-slot-test.true)) (ap (λ (n : ℕ). 4096 + 64 * n) c.from.ensures) c.loop-slot.invariant.did c.in_err-write.ensures.told in
+    search rules

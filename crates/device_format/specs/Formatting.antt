@@ -1,0 +1,30 @@
+-- What a device is once it is formatted, and what a crash leaves before.
+use Rattle.std.specs.Prelude.{◌≡◌, ◌≢◌, ◌⊎◌, ℕ}
+use Rattle.std.specs.FinMap.{empty}
+use Rattle.dev_model.specs.Story.{Bytes, Story, bytes_of, IsCalmAt}
+use Rattle.wal_log.specs.declared.places.TheConstants.{OPEN}
+use Rattle.image_model.specs.Superblock.{declared}
+use Rattle.image_model.specs.Opening.{IsLookedAt}
+use Rattle.image_model.specs.Recovered.{Recovers}
+
+-- the image of a store of so many pages that has no record, with these declared indexes
+pub record IsEmptyStore (pages indexes : ℕ) (bytes : Bytes) : Type 0 where
+  pub recovers : Recovers pages empty bytes
+  pub declares : declared bytes ≡ indexes
+
+-- such a store is what is read, and what each crash leaves where an opening looks
+pub record IsFreshStore (pages indexes : ℕ) (s : Story) : Type 0 where
+  pub calm : IsCalmAt (IsLookedAt (bytes_of s)) s
+  pub store : IsEmptyStore pages indexes (bytes_of s)
+
+-- an opening finds in it what it finds in the other
+abbrev pub LooksAs : (old image : Bytes) → Type 0
+LooksAs old image = (i : ℕ) → IsLookedAt old i → image i ≡ old i
+
+-- an opening finds no store
+abbrev pub IsUnformatted : Bytes → Type 0
+IsUnformatted image = image 0 ≢ OPEN
+
+-- what a crash may leave while a device is formatted
+abbrev pub IsBeforeOrAfter : (pages indexes : ℕ) (old image : Bytes) → Type 0
+IsBeforeOrAfter pages indexes old image = LooksAs old image ⊎ (IsUnformatted image ⊎ IsEmptyStore pages indexes image)

@@ -1,0 +1,54 @@
+// The whole of a format, in its order.
+ghost use Rattle.std.specs.Prelude.{◌≡◌, ◌≤◌, OnOk};
+ghost use Rattle.dev_model.specs.Counts.{HasCause};
+ghost use Rattle.dev_model.specs.Story.{WhereTold, IsCalmAt, Did, Ticks, bytes_of};
+ghost use Rattle.dev_model.specs.Moments.{LeavesOnly};
+ghost use Rattle.image_model.specs.Opening.{IsLookedAt};
+ghost use Rattle.device_format.specs.Planning.{Formats, write_calls, write_ticks};
+ghost use Rattle.device_format.specs.Formatting.{IsFreshStore, IsBeforeOrAfter};
+
+use crate::gates::{close_gates, close_superblock_if, is_superblock_open};
+use crate::superblock::write_superblock;
+use dev_model::{Device, Failed};
+use geo_base::IndexSet;
+use wal_log::{LOG_PAGES, start_segment};
+
+/// Makes the device an empty store with these declared indexes, whatever bytes it has.
+///
+/// The superblock's gate is closed first, where it is open, and opened last. So a crash before leaves what was there, one in
+/// between leaves no store, and one after it the empty store. It takes no memory, and stops at the first call that fails:
+/// after `Failed` any of the three may be there, and the device may be formatted again.
+pub fn format_dev<D: Device>(device: &mut D, indexes: IndexSet) -> Result<(), Failed>
+    requires pages { LOG_PAGES ≤ D.pages device.old }
+
+    // The calls that were made, in their order.
+    ensures did { Formats indexes (D.pages device.old) (D.story device.old) (D.story device.new) (D.clock device.old) (D.clock device.new) result }
+
+    // After `Ok` the empty store is there, whatever was before.
+    ensures formatted { OnOk result (WhereTold (D.story device.new) (IsFreshStore (D.pages device.old) indexes)) }
+
+    // Where each crash before the call left what is read, each crash at each moment of the call leaves that, or no store, or the
+    // empty one.
+    ensures any_moment { WhereTold (D.story device.old) (λ s. IsCalmAt (IsLookedAt (bytes_of s)) s → LeavesOnly s (D.story device.new)
+        (IsBeforeOrAfter (D.pages device.old) indexes (bytes_of s))) }
+
+    ensures same_pages { D.pages device.new ≡ D.pages device.old }
+    ensures cause { HasCause (D.fault_count device.old) (D.fault_count device.new) result }
+{
+    let is_open = is_superblock_open(device)?;
+    write_store(device, is_open, indexes)
+}
+
+/// Writes the empty store, over a superblock that is open or closed.
+fn write_store<D: Device>(device: &mut D, is_open: bool, indexes: IndexSet) -> Result<(), Failed>
+    requires { LOG_PAGES ≤ D.pages device.old }
+    ensures did { Did (write_calls is_open indexes (D.pages device.old)) (D.story device.old) (D.story device.new) result }
+    ensures ticks { Ticks (write_ticks is_open) (D.clock device.old) (D.clock device.new) result }
+    ensures same_pages { D.pages device.new ≡ D.pages device.old }
+    ensures cause { HasCause (D.fault_count device.old) (D.fault_count device.new) result }
+{
+    close_superblock_if(device, is_open)?;
+    close_gates(device)?;
+    start_segment(device, 0, 0, 1)?;
+    write_superblock(device, indexes)
+}

@@ -1,0 +1,36 @@
+// The superblock's bytes, and how they are written.
+ghost use Rattle.std.specs.Prelude.{◌≡◌, ◌≤◌};
+ghost use Rattle.dev_model.specs.Counts.{HasCause};
+ghost use Rattle.dev_model.specs.Story.{Did, Ticks};
+ghost use Rattle.image_model.specs.Superblock.{superblock_bytes};
+ghost use Rattle.device_format.specs.Planning.{write_superblock};
+
+use dev_model::{Device, Failed, write_synced};
+use geo_base::IndexSet;
+use image_model::{FORMAT, MAGIC};
+use wal_log::{LOG_PAGES, OPEN};
+
+/// The superblock behind its gate.
+fn spelled(indexes: IndexSet, pages: u32) -> [u8; 15]
+    ensures { result ≡ superblock_bytes indexes pages }
+{
+    let mut bytes = [0; 15];
+    bytes[0] = FORMAT;
+    bytes[1] = indexes.bits();
+    bytes[3..7].copy_from_slice(&pages.to_be_bytes());
+    bytes[7..].copy_from_slice(&MAGIC);
+    bytes
+}
+
+/// Writes the superblock, and opens its gate once the rest is on the disk.
+pub fn write_superblock<D: Device>(device: &mut D, indexes: IndexSet) -> Result<(), Failed>
+    requires { LOG_PAGES ≤ D.pages device.old }
+    ensures did { Did (write_superblock indexes (D.pages device.old)) (D.story device.old) (D.story device.new) result }
+    ensures ticks { Ticks 4 (D.clock device.old) (D.clock device.new) result }
+    ensures same_pages { D.pages device.new ≡ D.pages device.old }
+    ensures cause { HasCause (D.fault_count device.old) (D.fault_count device.new) result }
+{
+    let pages = device.pages();
+    write_synced(device, 1, &spelled(indexes, pages))?;
+    write_synced(device, 0, &[OPEN])
+}
