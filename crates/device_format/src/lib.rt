@@ -6,3 +6,4 @@ mod gates;
 mod superblock;
 
 pub use format::format_dev;
+pub use superblock::spelled as superblock_bytes;

@@ -10,8 +10,8 @@ use geo_base::IndexSet;
 use image_model::{FORMAT, MAGIC};
 use wal_log::{LOG_PAGES, OPEN};
 
-/// The superblock behind its gate.
-fn spelled(indexes: IndexSet, pages: u32) -> [u8; 15]
+/// The bytes of the superblock behind its gate: the version of the format, the declared indexes, the pages and a text.
+pub fn spelled(indexes: IndexSet, pages: u32) -> [u8; 15]
     ensures { result ≡ superblock_bytes indexes pages }
 {
     let mut bytes = [0; 15];

@@ -1,5 +1,5 @@
 -- Events without a device call.
-use Rattle.std.proofs.Common.{◌≡◌, ℕ, ◌-◌, Bool, true, false, not, List, [], length, Option, Some, None, IfSome, Result, Ok, Err, refl, sym, ◌∙◌, ap, subst}
+use Rattle.std.proofs.Common.{◌≡◌, ℕ, ◌-◌, Bool, true, false, [], length, Option, Some, None, IfSome, Ok, Err, refl, sym, ◌∙◌, ap, subst}
 use Rattle.std.specs.Option.{option_map}
 use Rattle.std.proofs.lemmas.Option.{same_Some}
 use Rattle.std.specs.FinMap as finite
@@ -10,14 +10,13 @@ use Rattle.geo_base.specs.declared.points.Row.{Row}
 use Rattle.geo_base.specs.declared.points.IndexKind.{IndexKind}
 use Rattle.table_model.specs.Table.{Table, place_of, rows_of, rows_inside}
 use Rattle.store_machine.specs.Machine.{Machine, does}
-use Rattle.store_machine.specs.Needs.{NeedsGet, NeedsLook, NeedsRegion, Needs}
+use Rattle.store_machine.specs.Needs.{NeedsLook, Needs}
 use Rattle.store_machine.specs.Runs.{is_fault, MakesCalls}
-use Rattle.store_machine.specs.Standing.{StoreState, Has, Tells, Makes}
+use Rattle.store_machine.specs.Standing.{StoreState, Has, Makes}
 use Rattle.store_machine.specs.Laws.Steps.{still}
 use Rattle.store_machine.specs.declared.events.Got.{Got}
 use Rattle.store_machine.specs.declared.events.Look.{Look}
 use Rattle.store_machine.specs.declared.events.Found.{Found}
-use Rattle.store_machine.specs.declared.events.Refusal.{Refusal}
 use Rattle.store_machine.specs.declared.events.Refusal.TheVariants.{NoIndex, OutOfMemory}
 use Rattle.store_machine.specs.declared.events.Action.{Action}
 use Rattle.store_machine.specs.declared.events.Action.TheVariants as action

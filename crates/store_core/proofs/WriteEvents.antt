@@ -1,22 +1,21 @@
 -- The event of a write.
-use Rattle.std.proofs.Common.{◌≡◌, ℕ, ◌+◌, ◌^◌, ◌<◌, ◌≤◌, Bool, true, false, List, [], ◌∷◌, ◌++◌, length, Option, Some, None, IfOk, IfErr, OnErr, Result, Ok, Err, refl, sym, ◌∙◌, ap, subst, arith}
+use Rattle.std.proofs.Common.{◌≡◌, ℕ, true, List, Option, None, IfOk, IfErr, OnErr, Result, Ok, Err, refl, sym, ◌∙◌, ap, subst, arith}
 use Rattle.std.specs.Option.{option_map}
 use Rattle.std.specs.FinMap as finite
 use Rattle.dev_model.specs.Counts.{next_count}
 use Rattle.geo_base.specs.declared.points.Point.{Point}
 use Rattle.geo_base.specs.declared.points.Row.{Row}
-use Rattle.table_model.specs.Table.{Table, Place, place_of}
+use Rattle.table_model.specs.Table.{Table, place_of}
 use Rattle.table_model.specs.Answers.{after_write}
 use Rattle.wal_log.specs.Records.{key_of}
 use Rattle.wal_log.specs.declared.records.LogOp.{LogOp}
 use Rattle.wal_log.specs.declared.records.LogOp.TheVariants.{Put, Del}
 use Rattle.image_model.specs.Recovered.{write_of}
-use Rattle.store_machine.specs.Machine.{Machine, Opening, is_logged}
-use Rattle.store_machine.specs.Needs.{NeedsWrite, Needs, RefusesWrite, place_in}
-use Rattle.store_machine.specs.Runs.{MakesCalls}
-use Rattle.store_machine.specs.Standing.{DeviceState, StoreState, Has, Tells, Makes}
+use Rattle.store_machine.specs.Machine.{Machine, is_logged}
+use Rattle.store_machine.specs.Needs.{RefusesWrite, place_in}
+use Rattle.store_machine.specs.Standing.{StoreState, Has, Makes}
 use Rattle.store_machine.specs.Laws.Steps.{still}
-use Rattle.store_machine.specs.Laws.Logging.{CanWrite, ready-to_write, wrote_state, WroteAll, wrote-logged, failed_state, WriteFails, write-failed}
+use Rattle.store_machine.specs.Laws.Logging.{CanWrite, ready-to_write, wrote_state, wrote-logged, failed_state, write-failed}
 use Rattle.store_machine.specs.declared.events.Wrote.{Wrote}
 use Rattle.store_machine.specs.declared.events.Refusal.{Refusal}
 use Rattle.store_machine.specs.declared.events.Refusal.TheVariants.{Fault, Stopped, Full, Again, NoIndex, Damaged, OutOfMemory}

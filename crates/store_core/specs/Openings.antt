@@ -1,7 +1,7 @@
 -- Why an opening is refused.
-use Rattle.std.specs.Prelude.{◌≡◌, ℕ, Option}
+use Rattle.std.specs.Prelude.{ℕ}
 use Rattle.dev_model.specs.Counts.{Rose}
-use Rattle.dev_model.specs.Story.{Bytes, Story, bytes_of, WhereTold, IsCalmAt}
+use Rattle.dev_model.specs.Story.{Bytes, bytes_of, WhereTold, IsCalmAt}
 use Rattle.wal_log.specs.Segments.{segments_of}
 use Rattle.wal_log.specs.Rules.{IsBad}
 use Rattle.image_model.specs.Superblock.{IsFormatted}

@@ -2,19 +2,17 @@
 -- `device_of` and `found_of` alone.
 use Rattle.std.specs.Prelude.{◌≡◌, ℕ, ◌+◌, ◌<◌, ◌≤◌, ◌^◌, List, [], ◌∷◌, ◌++◌, length, Option, Some, None, Result, Ok, Err}
 use Rattle.dev_model.specs.Counts.{Rose, next_count}
-use Rattle.dev_model.specs.Story.{Story, WhereTold, all_noted, clock_of, bytes_of}
+use Rattle.dev_model.specs.Story.{Story, WhereTold, all_noted, clock_of}
 use Rattle.dev_model.specs.DeviceCalls.{StopsWithin, ok_calls}
 use Rattle.geo_base.specs.declared.points.Point.{Point}
 use Rattle.table_model.specs.Table.{Table}
 use Rattle.wal_log.specs.Records.{record_bytes}
 use Rattle.wal_log.specs.State.{append_calls}
-use Rattle.wal_log.specs.declared.log.Log.{Log}
 use Rattle.wal_log.specs.declared.records.Record.{Record}
 use Rattle.wal_log.specs.declared.records.LogOp.{LogOp}
 use Rattle.wal_log.specs.declared.places.TheConstants.{MOST_RECORDS}
 use Rattle.store_machine.specs.Standing.{DeviceState, StoreState}
 use Rattle.store_machine.specs.Laws.Rests.{Appends, AppendsAll}
-use Rattle.store_machine.specs.Laws.Logging.{CanWrite}
 use Rattle.store_machine.specs.declared.events.Found.{Found}
 use Rattle.store_machine.specs.declared.events.Wrote.{Wrote}
 use Rattle.store_machine.specs.declared.events.Refusal.{Refusal}

@@ -43,7 +43,7 @@ pub(crate) fn read_directory<D: Device>(device: &mut D) -> Result<(), OpenFault>
 {
     let mut buf = [0; 4096];
     for page in 0..SLOTS / SLOTS_PER_PAGE {
-        if device.read(DIRECTORY_START + PAGE_BYTES * u64::from(page), &mut buf).is_err() {
+        if let Err(_) = device.read(DIRECTORY_START + PAGE_BYTES * u64::from(page), &mut buf) {
             return Err(OpenFault::Fault);
         }
         if let Some(slot) = first_open(&buf) {

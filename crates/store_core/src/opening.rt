@@ -10,7 +10,7 @@ ghost use Rattle.image_model.specs.Recovered.{write_of, replayed};
 ghost use Rattle.store_machine.specs.Standing.{IsReady, OpensFrom};
 ghost use Rattle.store_core.specs.Stores.{state_of, device_of};
 ghost use Rattle.store_core.specs.Openings.{IsRefusal, IsRefused, HasFaulted};
-ghost use Rattle.store_core.specs.Read.{HasRead};
+ghost use Rattle.store_core.specs.Read.{HasRead, opening_fault};
 
 use crate::directory::read_directory;
 use crate::rows::Rows;
@@ -44,6 +44,17 @@ struct Image {
     records: Vec<Record>,
 }
 
+// What a refusal of the log is for an opening.
+fn opening_fault(fault: LogFault) -> OpenFault
+    ensures { result ≡ opening_fault fault }
+{
+    match fault {
+        LogFault::Failed => OpenFault::Fault,
+        LogFault::BadLog(segment) => OpenFault::BadLog(segment),
+        LogFault::OutOfMemory => OpenFault::OutOfMemory,
+    }
+}
+
 // Reads all that an opening looks at.
 fn read_image<D: Device>(alloc: Global, device: &mut D) -> Result<Image, OpenFault>
     requires pages { LOG_PAGES ≤ D.pages device.old }
@@ -71,9 +82,7 @@ fn read_image<D: Device>(alloc: Global, device: &mut D) -> Result<Image, OpenFau
             log,
             records,
         }),
-        Err(LogFault::Failed) => Err(OpenFault::Fault),
-        Err(LogFault::BadLog(segment)) => Err(OpenFault::BadLog(segment)),
-        Err(LogFault::OutOfMemory) => Err(OpenFault::OutOfMemory),
+        Err(fault) => Err(opening_fault(fault)),
     }
 }
 

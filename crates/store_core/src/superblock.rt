@@ -1,5 +1,5 @@
 // The first page of a device.
-ghost use Rattle.std.specs.Prelude.{◌≡◌, ◌≤◌, ◌<◌, ◌-◌, slice_index, IfSome, IfNone, IfOk, IfErr};
+ghost use Rattle.std.specs.Prelude.{◌≡◌, ◌≤◌, ◌<◌, ◌-◌, slice_index, drop, IfSome, IfNone, IfOk, IfErr};
 ghost use Rattle.std.specs.Bool.{OnTrue, OnFalse};
 ghost use Rattle.dev_model.specs.Counts.{HasCause};
 ghost use Rattle.dev_model.specs.Story.{WhereTold, bytes_of, IsCalmAt};
@@ -11,17 +11,16 @@ ghost use Rattle.store_core.specs.Read.{IsSuperblock, IsSuperblockRefusal};
 
 use crate::opening::OpenFault;
 use dev_model::Device;
-use geo_base::{ALL_INDEXES, IndexSet};
-use image_model::{FORMAT, MAGIC};
+use device_format::superblock_bytes;
+use geo_base::IndexSet;
 use wal_log::{LOG_PAGES, OPEN};
 
-// The bytes behind the gate.
-fn superblock(indexes: u8, pages: u32) -> [u8; 15]
-    ensures { result ≡ superblock_bytes indexes pages }
+// The gate is open, and these are the bytes behind it.
+fn is_spelled(bytes: &[u8; 16], indexes: IndexSet, pages: u32) -> bool
+    ensures yes { OnTrue result ((slice_index bytes.now 0 ≡ OPEN) × (drop 1 bytes.now ≡ superblock_bytes indexes pages)) }
+    ensures no { OnFalse result (slice_index bytes.now 0 ≡ OPEN → drop 1 bytes.now ≡ superblock_bytes indexes pages → ⊥) }
 {
-    let [a, b, c, d] = pages.to_be_bytes();
-    let [l, s, m, p, i, q, t, v] = MAGIC;
-    [FORMAT, indexes, 0, a, b, c, d, l, s, m, p, i, q, t, v]
+    bytes[0] == OPEN && &bytes[1..] == &superblock_bytes(indexes, pages)[..]
 }
 
 // The declared indexes, where these are the bytes of a formatted device.
@@ -29,10 +28,10 @@ fn indexes_of(bytes: &[u8; 16], pages: u32) -> Option<IndexSet>
     ensures some { IfSome result (λ set. IsSuperblock pages bytes.now × (slice_index bytes.now 2 ≡ set)) }
     ensures none { IfNone result (IsSuperblock pages bytes.now → ⊥) }
 {
-    if bytes[0] != OPEN || &bytes[1..] != &superblock(bytes[2], pages)[..] {
-        return None;
+    match IndexSet::of_bits(bytes[2]) {
+        Some(indexes) if is_spelled(bytes, indexes, pages) => Some(indexes),
+        _ => None,
     }
-    IndexSet::of_bits(bytes[2])
 }
 
 /// Reads the superblock: the declared indexes.

@@ -1,5 +1,5 @@
 -- What a crash at a moment leaves.
-use Rattle.std.specs.Prelude.{◌≡◌, ◌⊎◌, ℕ, suc, ◌+◌, ◌<◌, nat_le, List, [], ◌∷◌, ◌++◌, length, take, Option, Some, None, if◌then◌else◌}
+use Rattle.std.specs.Prelude.{◌⊎◌, ℕ, suc, ◌+◌, ◌<◌, nat_le, List, [], ◌∷◌, ◌++◌, length, take, Option, Some, None, if◌then◌else◌}
 use Rattle.dev_model.specs.Story.{Bytes}
 use Rattle.table_model.specs.Table.{Table}
 use Rattle.image_model.specs.Recovered.{Recovers}

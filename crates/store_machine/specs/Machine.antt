@@ -1,5 +1,5 @@
 -- The machine: its state, and what an event does to it.
-use Rattle.std.specs.Prelude.{◌≡◌, ℕ, ◌+◌, Bool, true, false, List, [], ◌∷◌, ◌++◌, Option, Some, None, is_some, Ok, Err, if◌then◌else◌}
+use Rattle.std.specs.Prelude.{ℕ, ◌+◌, Bool, true, List, [], ◌∷◌, ◌++◌, Option, Some, None, is_some, Ok, Err, if◌then◌else◌}
 use Rattle.dev_model.specs.Counts.{next_count}
 use Rattle.dev_model.specs.declared.calls.DeviceCall.{DeviceCall}
 use Rattle.table_model.specs.Table.{Table}
@@ -9,8 +9,6 @@ use Rattle.wal_log.specs.declared.records.LogOp.{LogOp}
 use Rattle.wal_log.specs.declared.records.LogOp.TheVariants.{Put, Del}
 use Rattle.image_model.specs.Recovered.{write_of, after_writes}
 use Rattle.store_machine.specs.declared.events.Wrote.{Wrote}
-use Rattle.store_machine.specs.declared.events.Refusal.{Refusal}
-use Rattle.store_machine.specs.declared.events.Refusal.TheVariants.{Fault}
 use Rattle.store_machine.specs.declared.events.Action.{Action}
 use Rattle.store_machine.specs.declared.events.Action.TheVariants.{Write, Get, Count, Look, Region}
 use Rattle.store_machine.specs.declared.events.Event.{Event}

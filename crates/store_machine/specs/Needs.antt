@@ -1,6 +1,6 @@
 -- What an event needs where it stands, and what its answer tells. What is asked on every device speaks only of numbers that
 -- every device tells; of the table it is asked only where the device tells its bytes (`known`).
-use Rattle.std.specs.Prelude.{◌≡◌, ℕ, ◌+◌, ◌-◌, ◌<◌, ◌^◌, Bool, true, false, List, length, Option, Some, None, Ok, Err, if◌then◌else◌, not}
+use Rattle.std.specs.Prelude.{◌≡◌, ℕ, ◌+◌, ◌-◌, ◌<◌, ◌^◌, Bool, true, false, List, length, Some, None, Ok, Err, if◌then◌else◌}
 use Rattle.std.specs.Option.{option_map}
 use Rattle.std.specs.FinMap as finite
 use Rattle.geo_base.specs.Corners.{Corners}
@@ -8,7 +8,7 @@ use Rattle.geo_base.specs.Indexes.{has_index}
 use Rattle.geo_base.specs.declared.points.Point.{Point}
 use Rattle.geo_base.specs.declared.points.Row.{Row}
 use Rattle.geo_base.specs.declared.points.IndexKind.{IndexKind}
-use Rattle.table_model.specs.Table.{Table, Place, place_of, rows_of, rows_inside}
+use Rattle.table_model.specs.Table.{Place, place_of, rows_of, rows_inside}
 use Rattle.wal_log.specs.Records.{key_of}
 use Rattle.wal_log.specs.declared.places.TheConstants.{MOST_RECORDS}
 use Rattle.wal_log.specs.declared.records.LogOp.{LogOp}

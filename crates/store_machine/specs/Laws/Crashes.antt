@@ -1,9 +1,9 @@
 -- How what each crash leaves goes on over a call of the device. No public contract needs these laws.
-use Rattle.std.proofs.Common.{◌≡◌, ◌⊎◌, inl, inr, ⊎_elim, ℕ, ◌+◌, ◌<◌, ◌≤◌, List, [], ◌∷◌, ◌++◌, length, take, refl, sym, ◌∙◌, ap, subst, arith, Option, Some}
+use Rattle.std.proofs.Common.{◌≡◌, ◌⊎◌, inl, inr, ⊎_elim, ℕ, ◌+◌, ◌≤◌, List, [], ◌∷◌, ◌++◌, length, take, sym, ◌∙◌, ap, subst, arith, Option, Some}
 use Rattle.std.proofs.lemmas.List.{take-append-le, take_all, length_push}
 use Rattle.std.proofs.lemmas.Option.{same_Some}
 use Rattle.std.proofs.Math.Seq.{take-append_seam}
-use Rattle.dev_model.specs.Story.{Story, Bytes, Calls, after, clock_of, bytes_of, IsImage, IsImageNow}
+use Rattle.dev_model.specs.Story.{Story, Bytes, Calls, after, clock_of, IsImage, IsImageNow}
 use Rattle.dev_model.specs.Moments.{EachMoment, LeavesOnly}
 use Rattle.dev_model.specs.Laws.Runs.{EachMoment-join, before_or_since}
 use Rattle.dev_model.specs.Laws.Images.{IsImage-now}

@@ -1,32 +1,29 @@
 -- The event of a write that is logged, whether it was answered or failed. No public contract needs these laws.
-use Rattle.std.proofs.Common.{◌≡◌, ◌⊎◌, inl, inr, ℕ, ◌+◌, ◌^◌, ◌<◌, ◌≤◌, Bool, true, false, List, [], ◌∷◌, ◌++◌, length, Option, Some, None, Ok, Err, Result, refl, sym, ◌∙◌, ap, subst, arith, if◌then◌else◌}
+use Rattle.std.proofs.Common.{◌≡◌, ℕ, ◌+◌, ◌^◌, ◌<◌, ◌≤◌, Bool, true, false, List, [], ◌∷◌, ◌++◌, length, Option, Some, None, Ok, Err, refl, sym, ◌∙◌, ap, subst, arith, if◌then◌else◌}
 use Rattle.std.proofs.lemmas.List.{length_push, length-append}
 use Rattle.std.proofs.lemmas.Option.{same_Some}
 use Rattle.std.specs.Option.{option_map}
 use Rattle.std.specs.FinMap as finite
 use Rattle.dev_model.specs.Counts.{Rose, next_count}
-use Rattle.dev_model.specs.Story.{Story, Bytes, Write as WriteCall, Sync, Calls, after, all_noted, clock_of, bytes_of, WhereTold, IsImageNow, Did}
+use Rattle.dev_model.specs.Story.{Story, Calls, after, all_noted, clock_of, WhereTold}
 use Rattle.dev_model.specs.Moments.{EachMoment}
 use Rattle.dev_model.specs.DeviceCalls.{made_at, ok_calls, StopsWithin}
-use Rattle.dev_model.specs.Laws.CallLists.{clock_of-after, StopsWithin-did}
+use Rattle.dev_model.specs.Laws.CallLists.{clock_of-after}
 use Rattle.dev_model.specs.Laws.Plans.{all_noted-told}
 use Rattle.dev_model.specs.declared.calls.DeviceCall.{DeviceCall}
 use Rattle.dev_model.specs.declared.calls.DeviceAct.TheVariants.{WriteAt, SyncAll}
-use Rattle.dev_model.specs.declared.streams.Failed.{Failed}
-use Rattle.table_model.specs.Table.{Table, Place}
+use Rattle.table_model.specs.Table.{Table}
 use Rattle.table_model.specs.Answers.{after_write}
-use Rattle.wal_log.specs.Places.{IsInLog}
 use Rattle.wal_log.specs.Records.{record_bytes, key_of}
 use Rattle.wal_log.specs.State.{append_calls}
-use Rattle.wal_log.specs.declared.places.TheConstants.{MOST_RECORDS, RECORD_BYTES}
+use Rattle.wal_log.specs.declared.places.TheConstants.{MOST_RECORDS}
 use Rattle.wal_log.specs.declared.log.Log.{Log}
 use Rattle.wal_log.specs.declared.records.Record.{Record}
 use Rattle.wal_log.specs.declared.records.LogOp.{LogOp}
 use Rattle.image_model.specs.Recovered.{write_of, Recovers}
-use Rattle.image_model.specs.Opening.{IsLookedAt}
-use Rattle.store_machine.specs.Machine.{Machine, Opening, Group, is_logged, does, after_event, after_logged, after_answer, after_groups}
-use Rattle.store_machine.specs.Needs.{IsReadyToWrite, NeedsWrite, Needs, place_in}
-use Rattle.store_machine.specs.Runs.{IsLogWrite, IsLogWriteFront, MakesWriteCalls, MakesCalls}
+use Rattle.store_machine.specs.Machine.{Machine, Opening, Group, is_logged, after_event, after_logged, after_answer, after_groups}
+use Rattle.store_machine.specs.Needs.{IsReadyToWrite, place_in}
+use Rattle.store_machine.specs.Runs.{IsLogWrite, MakesWriteCalls}
 use Rattle.store_machine.specs.Crash.{Keeps, attempted}
 use Rattle.store_machine.specs.Standing.{DeviceState, StoreState, IsAtRest, AreUpTo, Has, Tells, Makes}
 use Rattle.store_machine.specs.Laws.Counting.{AreUpTo-later, AreUpTo-push, after_groups-push}
@@ -35,7 +32,6 @@ use Rattle.store_machine.specs.Laws.Rests.{Appends, AppendsAll, gate_of, gate-in
 use Rattle.store_machine.specs.Laws.Steps.{makes, goes_on}
 use Rattle.store_machine.specs.declared.events.Wrote.{Wrote}
 use Rattle.store_machine.specs.declared.events.Refusal.TheVariants.{Fault}
-use Rattle.store_machine.specs.declared.events.Action.{Action}
 use Rattle.store_machine.specs.declared.events.Action.TheVariants.{Write}
 use Rattle.store_machine.specs.declared.events.Event.{Event}
 

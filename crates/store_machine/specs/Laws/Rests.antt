@@ -1,5 +1,5 @@
 -- What a store has on its device, over a run of calls that writes in the log alone. No public contract needs these laws.
-use Rattle.std.proofs.Common.{◌≡◌, ◌⊎◌, inl, inr, ℕ, ◌+◌, ◌*◌, ◌<◌, ◌≤◌, List, [], ◌∷◌, ◌++◌, map, Option, Some, refl, sym, ◌∙◌, ap, subst, arith}
+use Rattle.std.proofs.Common.{◌≡◌, ◌⊎◌, inl, inr, ℕ, ◌<◌, ◌≤◌, List, [], ◌∷◌, ◌++◌, map, Some, refl, sym, ◌∙◌, ap, subst, arith}
 use Rattle.std.proofs.lemmas.List.{map_push}
 use Rattle.std.proofs.lemmas.Nat.{mod_below}
 use Rattle.std.proofs.lemmas.Option.{same_Some}
@@ -19,9 +19,9 @@ use Rattle.wal_log.specs.declared.places.TheConstants.{LOG_START, MOST_RECORDS}
 use Rattle.wal_log.specs.declared.log.Log.{Log}
 use Rattle.wal_log.specs.declared.records.Record.{Record}
 use Rattle.image_model.specs.Superblock.{IsFormatted}
-use Rattle.image_model.specs.Directory.{slot_start, HasNoComponent}
+use Rattle.image_model.specs.Directory.{HasNoComponent}
 use Rattle.image_model.specs.Opening.{ends, IsLookedInSuperblock, IsSlotGate}
-use Rattle.image_model.specs.Recovered.{write_of, after_writes, replayed, recovered, Recovers}
+use Rattle.image_model.specs.Recovered.{write_of, after_writes, replayed, Recovers}
 use Rattle.image_model.specs.Laws.Agreeing.{formatted-same, directory-same}
 use Rattle.store_machine.specs.Standing.{DeviceState, IsAtRest}
 use Rattle.store_machine.specs.Laws.Crashes.{RecoversEither}
@@ -82,7 +82,7 @@ after_writes-push : (t : Table) (ws : List Write) (w : Write) → after_writes t
 after_writes-push t [] w = refl
 after_writes-push t (v ∷ ws) w = after_writes-push (after_write t v) ws w
 
-replayed-push : (t : Table) (rs : List Record) (r : Record) → replayed t (rs ++ r ∷ []) ≡ after_write (replayed t rs) (write_of r.op)
+pub replayed-push : (t : Table) (rs : List Record) (r : Record) → replayed t (rs ++ r ∷ []) ≡ after_write (replayed t rs) (write_of r.op)
 replayed-push t rs r = ap (after_writes t) (map_push (λ (x : Record). write_of x.op) rs r) ∙ after_writes-push t (map (λ (x : Record). write_of x.op) rs) (write_of r.op)
 
 -- the gate of the next record

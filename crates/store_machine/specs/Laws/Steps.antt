@@ -1,5 +1,5 @@
 -- One event after another. No public contract needs these laws.
-use Rattle.std.proofs.Common.{◌≡◌, ℕ, ◌+◌, ◌≤◌, Bool, true, false, List, [], ◌∷◌, ◌++◌, length, refl, sym, ◌∙◌, ap, subst, arith, append_assoc, append-nil, Option, Some, None}
+use Rattle.std.proofs.Common.{◌≡◌, ℕ, ◌+◌, Bool, true, false, List, [], ◌∷◌, ◌++◌, length, refl, sym, ◌∙◌, ap, subst, arith, append_assoc, append-nil, Some}
 use Rattle.dev_model.specs.Story.{Story, Calls, after, clock_of}
 use Rattle.dev_model.specs.DeviceCalls.{ok_calls}
 use Rattle.dev_model.specs.Laws.Runs.{after-append}
@@ -9,7 +9,7 @@ use Rattle.table_model.specs.Table.{Table}
 use Rattle.store_machine.specs.Machine.{Machine, Opening, does, at_opening, after_event, after_all}
 use Rattle.store_machine.specs.Needs.{Needs}
 use Rattle.store_machine.specs.Runs.{IsRun, Allows, MakesCalls, is_fault}
-use Rattle.store_machine.specs.Standing.{DeviceState, StoreState, IsAtRest, Has, Tells, Stands, Adds, IsEventOf, Makes}
+use Rattle.store_machine.specs.Standing.{StoreState, IsAtRest, Has, Tells, Stands, Adds, IsEventOf, Makes}
 use Rattle.store_machine.specs.declared.events.Action.{Action}
 use Rattle.store_machine.specs.declared.events.Event.{Event}
 

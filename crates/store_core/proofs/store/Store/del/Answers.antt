@@ -1,7 +1,6 @@
-use Rattle.std.proofs.Common.{◌≡◌, ap, refl, sym, ◌∙◌, List, ℕ, Option, Some, None, true, is_some}
+use Rattle.std.proofs.Common.{ap, sym, ◌∙◌, List, ℕ, is_some}
 use Rattle.std.specs.Option.{option_map}
 use Rattle.std.specs.FinMap as finite
-use Rattle.geo_base.specs.declared.points.Point.{Point}
 use Rattle.wal_log.specs.declared.records.LogOp.TheVariants.{Del}
 use Rattle.store_machine.specs.Needs.{place_in}
 use Rattle.store_machine.specs.Standing.{StoreState}

@@ -1,6 +1,4 @@
-use Rattle.std.proofs.Common.{ap, ◌≡◌, Option, Some, IfSome, ℕ}
-use Rattle.std.proofs.lemmas.Option.{same_Some}
-use Rattle.geo_base.specs.declared.points.Row.{Row}
+use Rattle.std.proofs.Common.{ap}
 use Rattle.store_core.specs.Stores.{state_of}
 use Rattle.store_core.proofs.Answering.{got, if_some}
 use Rattle.store_core.proofs.store.Store.get.Goals as goal
