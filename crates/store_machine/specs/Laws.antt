@@ -4,3 +4,4 @@ pub mod Crashes
 pub mod Steps
 pub mod Rests
 pub mod Logging
+pub mod Histories
