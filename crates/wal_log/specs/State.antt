@@ -65,6 +65,10 @@ close_calls k = Write (segment_start k) (0 ∷ []) ∷ Sync ∷ []
 abbrev pub close_calls_if : Bool → ℕ → Calls
 close_calls_if is_open k = if is_open then close_calls k else []
 
+-- how many calls that is
+abbrev pub close_count : Bool → ℕ
+close_count is_open = if is_open then 2 else 0
+
 -- a header with the closed gate of its segment's first record, and then its own gate, open
 abbrev pub start_calls : (k generation first_lsn : ℕ) → Calls
 start_calls k generation first_lsn =
