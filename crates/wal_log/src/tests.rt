@@ -321,11 +321,16 @@ fn lay_delete(device: &mut MemDevice, place: u16) -> Option<()> {
     }
     let gate = 36_928 + 96 * u64::from(place);
     let [high, low] = (place + 1).to_be_bytes();
-    for (at, byte) in [165, 2, 1, 0, 0, 0, 0, 0, 0, 0, high, low].iter().enumerate() {
-        device.poke(gate + at as u64, *byte);
-    }
-    for at in 12..96 {
-        device.poke(gate + at, 0);
+    for at in 0..96 {
+        let byte = match at {
+            0 => 165,
+            1 => 2,
+            2 => 1,
+            10 => high,
+            11 => low,
+            _ => 0,
+        };
+        device.poke(gate + at, byte);
     }
     Some(())
 }
