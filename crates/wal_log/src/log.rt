@@ -10,7 +10,9 @@ ghost use Rattle.wal_log.specs.Rules.{Opens, records_of};
 ghost use Rattle.wal_log.specs.State.{IsAtRest, IsCounted, IsLogOf, HasRecordsOr, HasSameRecords, IsBeforeOrAfter, IsTurning, newest, following, first_header, append_calls, close_calls, close_calls_if, close_count, start_calls, turn_calls};
 
 use crate::Record;
-use crate::places::{LOG_PAGES, MOST_RECORDS, OPEN, SEGMENT_BYTES, record_start, segment_start};
+use crate::places::{
+    LOG_PAGES, LSN_LIMIT, MOST_RECORDS, OPEN, SEGMENT_BYTES, record_start, segment_start,
+};
 use crate::spelling::{header_with_closed_gate, with_closed_gate};
 use dev_model::{Device, Failed, write_synced};
 
@@ -40,7 +42,7 @@ impl Log {
     pub fn append<D: Device>(&mut self, device: &mut D, logged: &Record) -> Result<u64, Failed>
         requires room { self.old.records < MOST_RECORDS }
         requires next { logged.now.lsn ≡ self.old.next_lsn }
-        requires below { logged.now.lsn < 2 ^ 62 }
+        requires below { logged.now.lsn < LSN_LIMIT }
         requires has_old { HasOld logged.now.op logged.now.old_point }
         requires pages { LOG_PAGES ≤ D.pages device.old }
         requires counted { IsCounted self.old }

@@ -4,13 +4,11 @@ ghost use Rattle.wal_log.specs.Examples.{first_write, first_write_bytes};
 ghost use Rattle.wal_log.specs.Records.{record_bytes, HasOld};
 ghost use Rattle.wal_log.specs.State.{IsCounted};
 
-use crate::{LOG_PAGES, Log, LogFault, LogOp, MOST_RECORDS, Record};
+use crate::{LOG_PAGES, LSN_LIMIT, Log, LogFault, LogOp, MOST_RECORDS, Record};
 use dev_model::{Device, MemDevice, Torn};
 use geo_base::{Note, Point, Row};
 use std::alloc::Global;
 use std::test::Fail;
-
-const MOST_LSN: u64 = 0x4000_0000_0000_0000;
 
 /// The example record has these bytes.
 fn example()
@@ -46,7 +44,7 @@ fn add(log: &mut Log, device: &mut MemDevice, op: LogOp, old_point: Option<Point
     ensures counted { IfSome result (λ _. IsCounted log.new) }
     ensures some { IfSome result (λ _. 1 ≤ log.new.records) }
 {
-    if log.records >= MOST_RECORDS || log.next_lsn >= MOST_LSN {
+    if log.records >= MOST_RECORDS || log.next_lsn >= LSN_LIMIT {
         return None;
     }
     let logged = Record {
@@ -279,7 +277,11 @@ fn failed_calls_are_answered(rt: HostRuntime) -> Result<(), Fail> {
         let Some(mut device) = fresh_failing(failing, 100, 1000, alloc) else {
             panic!(rt; "no device");
         };
-        assert_eq!(rt; read(&mut device, 0, alloc), Some(Err(LogFault::Failed)), "{failing}");
+        assert_eq!(rt;
+            read(&mut device, 0, alloc),
+            Some(Err(LogFault::Failed)),
+            "{failing}"
+        );
     }
     // then an append writes and syncs the record, and writes and syncs its gate
     for (failing, stands, read_back, left) in [
@@ -295,7 +297,11 @@ fn failed_calls_are_answered(rt: HostRuntime) -> Result<(), Fail> {
         assert_eq!(rt; add_first(&mut device, alloc), Some(stands), "{failing}");
         assert_eq!(rt; least_left(&device, 1, alloc), Some(left), "{failing}");
         if failing < 11 {
-            assert_eq!(rt; read(&mut device, 0, alloc), Some(Ok(read_back)), "{failing}");
+            assert_eq!(rt;
+                read(&mut device, 0, alloc),
+                Some(Ok(read_back)),
+                "{failing}"
+            );
         }
     }
     Ok(())
