@@ -1,11 +1,13 @@
 -- What is found where a record may stand, and what a segment gives. No public contract needs this file but for the words of faults
 -- (`WhereBad`, `HasCauseOfFault`).
-use Rattle.std.specs.Prelude.{◌≡◌, ◌≢◌, ◌%◌, take, drop, get_or, ℕ, ◌+◌, ◌-◌, ◌<◌, ◌≤◌, ◌^◌, ◌⊎◌, List, ◌++◌, length, map, Result, IfErr}
+use Rattle.std.specs.Prelude.{◌≡◌, ◌≢◌, ◌%◌, take, drop, get_or, ℕ, ◌+◌, ◌-◌, ◌<◌, ◌≤◌, ◌⊎◌, List, ◌++◌, length, map, Result, IfErr}
 use Rattle.dev_model.specs.Counts.{Rose}
 use Rattle.dev_model.specs.Story.{Bytes, Story, bytes_of, part, IsSettled, IsReadFrom}
 use Rattle.wal_log.specs.Records.{IsRecord, record_of}
 use Rattle.wal_log.specs.Rules.{HasRecords, AreRecords}
 use Rattle.wal_log.specs.Places.{segment_start, record_start}
+use Rattle.wal_log.specs.declared.places.TheConstants.{RECORD_BYTES, RECORD_BODY_BYTES, MOST_RECORDS, LSN_LIMIT, OPEN}
+use Rattle.wal_log.specs.declared.reading.TheConstants.{WINDOW_RECORDS}
 use Rattle.wal_log.specs.State.{IsSegmentStill}
 use Rattle.wal_log.specs.Segments.{segment_records, open_records}
 use Rattle.wal_log.specs.declared.records.Record.{Record}
@@ -17,17 +19,17 @@ use Rattle.wal_log.specs.declared.reading.LogFault.TheVariants.{Failed, BadLog, 
 -- A record's gate is on the disk, and where it is open the bytes behind it are.
 pub record IsPlaceStill (at : ℕ) (s : Story) : Type 0 where
   pub gate : IsSettled s.past at
-  pub body : bytes_of s at ≡ 165 → (i : ℕ) → at < i → i < at + 96 → IsSettled s.past i
+  pub body : bytes_of s at ≡ OPEN → (i : ℕ) → at < i → i < at + RECORD_BYTES → IsSettled s.past i
 
 -- a segment is open, and all that is looked at to read it is on the disk
 pub record IsOpenStill (k : ℕ) (s : Story) : Type 0 where
-  pub started : bytes_of s (segment_start k) ≡ 165
+  pub started : bytes_of s (segment_start k) ≡ OPEN
   pub still : IsSegmentStill k s
 
 abbrev pub IsFound : ℕ → ℕ → Bytes → Found → Type 0
-IsFound at lsn bytes Closed = bytes at ≢ 165
-IsFound at lsn bytes Bad = (bytes at ≡ 165) × (IsRecord lsn (part (at + 1) 95 bytes) → ⊥)
-IsFound at lsn bytes (Sound r) = (bytes at ≡ 165) × IsRecord lsn (part (at + 1) 95 bytes) × (r ≡ record_of (part (at + 1) 95 bytes))
+IsFound at lsn bytes Closed = bytes at ≢ OPEN
+IsFound at lsn bytes Bad = (bytes at ≡ OPEN) × (IsRecord lsn (part (at + 1) RECORD_BODY_BYTES bytes) → ⊥)
+IsFound at lsn bytes (Sound r) = (bytes at ≡ OPEN) × IsRecord lsn (part (at + 1) RECORD_BODY_BYTES bytes) × (r ≡ record_of (part (at + 1) RECORD_BODY_BYTES bytes))
 
 -- so many records, all of them lawful, were read and put last
 pub record HasReadAll (first count : ℕ) (records : List (List ℕ)) (before now : List Record) : Type 0 where
@@ -37,28 +39,28 @@ pub record HasReadAll (first count : ℕ) (records : List (List ℕ)) (before no
 
 -- where the window begins that has a place
 abbrev pub window_start : ℕ → ℕ → ℕ
-window_start k place = record_start k (place - place % 42)
+window_start k place = record_start k (place - place % WINDOW_RECORDS)
 
 -- The window has what stands at a place and behind it, where that isn't the first place of the next window.
 abbrev pub HoldsPlaces : ℕ → ℕ → List ℕ → Story → Type 0
-HoldsPlaces k place window s = place % 42 ≢ 0 → IsReadFrom (window_start k place) window s
+HoldsPlaces k place window s = place % WINDOW_RECORDS ≢ 0 → IsReadFrom (window_start k place) window s
 
 -- what is found in a window, at a place in it
 abbrev pub IsFoundIn : ℕ → ℕ → List ℕ → Found → Type 0
-IsFoundIn at lsn window Closed = get_or window at 0 ≢ 165
-IsFoundIn at lsn window Bad = (get_or window at 0 ≡ 165) × (IsRecord lsn (take 95 (drop (at + 1) window)) → ⊥)
-IsFoundIn at lsn window (Sound r) = (get_or window at 0 ≡ 165) × IsRecord lsn (take 95 (drop (at + 1) window)) × (r ≡ record_of (take 95 (drop (at + 1) window)))
+IsFoundIn at lsn window Closed = get_or window at 0 ≢ OPEN
+IsFoundIn at lsn window Bad = (get_or window at 0 ≡ OPEN) × (IsRecord lsn (take RECORD_BODY_BYTES (drop (at + 1) window)) → ⊥)
+IsFoundIn at lsn window (Sound r) = (get_or window at 0 ≡ OPEN) × IsRecord lsn (take RECORD_BODY_BYTES (drop (at + 1) window)) × (r ≡ record_of (take RECORD_BODY_BYTES (drop (at + 1) window)))
 
 -- the number of a record that was found
 abbrev pub HasNumber : ℕ → Found → Type 0
 HasNumber lsn Closed = Unit {0}
 HasNumber lsn Bad = Unit {0}
-HasNumber lsn (Sound r) = lsn < 2 ^ 62
+HasNumber lsn (Sound r) = lsn < LSN_LIMIT
 
 -- so many records from this number on, each with a number below 2^62
 pub record AreFew (first count : ℕ) : Type 0 where
-  pub few : count ≤ 2048
-  pub below : (count ≡ 0) ⊎ (first + count ≤ 2 ^ 62)
+  pub few : count ≤ MOST_RECORDS
+  pub below : (count ≡ 0) ⊎ (first + count ≤ LSN_LIMIT)
 
 -- what a named segment says
 abbrev pub WhereBad : LogFault → (ℕ → Type 0) → Type 0
@@ -80,6 +82,6 @@ pub record HasCauseOfFault {T : Type 0} (before now : ℕ) (result : Result T Lo
 pub record HasReadSome (first place k : ℕ) (bytes : Bytes) (before now : List Record) : Type 0 where
   pub front : List (List ℕ)
   pub counts : length front ≡ place
-  pub rest : segment_records k bytes ≡ front ++ open_records (2049 - place) (record_start k place) bytes
+  pub rest : segment_records k bytes ≡ front ++ open_records (MOST_RECORDS + 1 - place) (record_start k place) bytes
   pub lawful : AreRecords first front
   pub added : now ≡ before ++ map record_of front

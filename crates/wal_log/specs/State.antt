@@ -1,12 +1,12 @@
 -- How a log that is kept in memory belongs to the bytes, and the calls that an append and a change of segments make.
-use Rattle.std.specs.Prelude.{◌≡◌, ◌⊎◌, ℕ, ◌+◌, ◌<◌, ◌≤◌, ◌%◌, ◌^◌, List, [], ◌∷◌, ◌++◌, length, map, get_or, set, Bool, false, if◌then◌else◌, ◌==◌, None, Some}
+use Rattle.std.specs.Prelude.{◌≡◌, ◌⊎◌, ℕ, ◌+◌, ◌<◌, ◌≤◌, ◌%◌, List, [], ◌∷◌, ◌++◌, length, map, get_or, set, Bool, false, if◌then◌else◌, ◌==◌, None, Some}
 use Rattle.dev_model.specs.Story.{Story, bytes_of, IsCalmAt, Write, Sync, Calls}
 use Rattle.wal_log.specs.Places.{segment_start, record_start}
 use Rattle.wal_log.specs.Headers.{header_bytes}
 use Rattle.wal_log.specs.Records.{record_bytes}
 use Rattle.wal_log.specs.Segments.{Segments, segment_records, with_records, behind_gate, started_segment, IsLooked}
 use Rattle.wal_log.specs.Rules.{Numbered, generation_of, next_lsn_of, AreSound, in_order, Opens, records_of}
-use Rattle.wal_log.specs.declared.places.TheConstants.{MOST_RECORDS, OPEN}
+use Rattle.wal_log.specs.declared.places.TheConstants.{MOST_RECORDS, LSN_LIMIT, OPEN}
 use Rattle.wal_log.specs.declared.log.Log.{Log}
 use Rattle.wal_log.specs.declared.records.Record.{Record}
 
@@ -44,7 +44,7 @@ pub record IsAtRest (log : Log) (s : Story) : Type 0 where
 pub record IsCounted (log : Log) : Type 0 where
   pub few : log.records ≤ MOST_RECORDS
   pub generation : log.generation + log.records ≤ log.next_lsn
-  pub next_lsn : log.next_lsn ≤ 2 ^ 62
+  pub next_lsn : log.next_lsn ≤ LSN_LIMIT
 
 -- Records one behind another, with the open gates between them and a closed gate behind the last, and then the gate of the first,
 -- open. With that gate all of them stand, and none before.
@@ -64,6 +64,10 @@ close_calls k = Write (segment_start k) (0 ∷ []) ∷ Sync ∷ []
 -- Of a header that is open alone. What is closed isn't written closed again.
 abbrev pub close_calls_if : Bool → ℕ → Calls
 close_calls_if is_open k = if is_open then close_calls k else []
+
+-- how many calls that is
+abbrev pub close_count : Bool → ℕ
+close_count is_open = if is_open then 2 else 0
 
 -- a header with the closed gate of its segment's first record, and then its own gate, open
 abbrev pub start_calls : (k generation first_lsn : ℕ) → Calls

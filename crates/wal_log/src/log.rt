@@ -1,5 +1,5 @@
 // The log: its end, where it grows, and the turn to the next segment.
-ghost use Rattle.std.specs.Prelude.{◌≡◌, ◌+◌, ◌-◌, ◌++◌, ◌∷◌, [], ◌^◌, ◌<◌, ◌≤◌, None, Some, true, IfOk, OnOk, set, get_or, length, ℕ, List, All};
+ghost use Rattle.std.specs.Prelude.{◌≡◌, ◌+◌, ◌-◌, ◌++◌, ◌∷◌, [], ◌^◌, ◌<◌, ◌≤◌, None, Some, false, true, IfOk, OnOk, set, get_or, length, ℕ, List, All};
 ghost use Rattle.dev_model.specs.Counts.{HasCause};
 ghost use Rattle.dev_model.specs.Story.{WhereTold, Did, Ticks, bytes_of};
 ghost use Rattle.dev_model.specs.Moments.{LeavesOnly, WritesWithin};
@@ -7,10 +7,12 @@ ghost use Rattle.wal_log.specs.Places.{segment_start, record_start};
 ghost use Rattle.wal_log.specs.Records.{record_bytes, HasOld};
 ghost use Rattle.wal_log.specs.Segments.{segments_of, with_record, started_segment};
 ghost use Rattle.wal_log.specs.Rules.{Opens, records_of};
-ghost use Rattle.wal_log.specs.State.{IsAtRest, IsCounted, IsLogOf, HasRecordsOr, HasSameRecords, OpensAs, IsBeforeOrAfter, IsTurning, newest, following, first_header, append_calls, close_calls, close_calls_if, start_calls, turn_calls};
+ghost use Rattle.wal_log.specs.State.{IsAtRest, IsCounted, IsLogOf, HasRecordsOr, HasSameRecords, OpensAs, IsBeforeOrAfter, IsTurning, newest, following, first_header, append_calls, close_calls, close_calls_if, close_count, start_calls, turn_calls};
 
 use crate::Record;
-use crate::places::{LOG_PAGES, MOST_RECORDS, OPEN, RECORD_BYTES, SEGMENT_BYTES, record_start, segment_start};
+use crate::places::{
+    LOG_PAGES, LSN_LIMIT, MOST_RECORDS, OPEN, RECORD_BYTES, SEGMENT_BYTES, record_start, segment_start,
+};
 use crate::spelling::{header_with_closed_gate, with_closed_gate};
 use dev_model::{Device, Failed, write_synced};
 
@@ -40,7 +42,7 @@ impl Log {
     pub fn append<D: Device>(&mut self, device: &mut D, logged: &Record) -> Result<u64, Failed>
         requires room { self.old.records < MOST_RECORDS }
         requires next { logged.now.lsn ≡ self.old.next_lsn }
-        requires below { logged.now.lsn < 2 ^ 62 }
+        requires below { logged.now.lsn < LSN_LIMIT }
         requires has_old { HasOld logged.now.op logged.now.old_point }
         requires pages { LOG_PAGES ≤ D.pages device.old }
         requires counted { IsCounted self.old }
@@ -96,6 +98,7 @@ impl Log {
         requires counted { IsCounted self.old }
 
         ensures did { Did (turn_calls self.old) (D.story device.old) (D.story device.new) result }
+        ensures ticks { Ticks (close_count (get_or self.old.open_headers (following self.old) false) + 4) (D.clock device.old) (D.clock device.new) result }
         ensures within { WhereTold (D.story device.old) (λ s. WritesWithin (segment_start (following self.old)) SEGMENT_BYTES s (D.story device.new)) }
 
         // Each crash at each moment of the call leaves the old segments, these without the next one, or these with it as a new one.
@@ -137,6 +140,7 @@ fn close_if_open<D: Device>(device: &mut D, k: u8, is_open: bool) -> Result<(), 
     requires below { k < 4 }
     requires pages { LOG_PAGES ≤ D.pages device.old }
     ensures did { Did (close_calls_if is_open k) (D.story device.old) (D.story device.new) result }
+    ensures ticks { Ticks (close_count is_open) (D.clock device.old) (D.clock device.new) result }
     ensures same_pages { D.pages device.new ≡ D.pages device.old }
     ensures cause { HasCause (D.fault_count device.old) (D.fault_count device.new) result }
 {
@@ -152,6 +156,7 @@ fn close_header<D: Device>(device: &mut D, k: u8) -> Result<(), Failed>
     requires below { k < 4 }
     requires pages { LOG_PAGES ≤ D.pages device.old }
     ensures did { Did (close_calls k) (D.story device.old) (D.story device.new) result }
+    ensures ticks { Ticks 2 (D.clock device.old) (D.clock device.new) result }
     ensures same_pages { D.pages device.new ≡ D.pages device.old }
     ensures cause { HasCause (D.fault_count device.old) (D.fault_count device.new) result }
 {

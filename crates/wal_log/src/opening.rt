@@ -9,7 +9,7 @@ ghost use Rattle.wal_log.specs.Rules.{Opens, IsBad, records_of};
 ghost use Rattle.wal_log.specs.Found.{WhereBad, HasCauseOfFault};
 ghost use Rattle.wal_log.specs.State.{IsAtRest, IsCounted, IsLogOf, IsSegmentStill, IsStill};
 
-use crate::places::LOG_PAGES;
+use crate::places::{LOG_PAGES, LSN_LIMIT};
 use crate::walk::{Gathered, read_segments};
 use crate::{Log, LogFault, Record};
 use dev_model::Device;
@@ -25,7 +25,7 @@ impl Log {
     ) -> Result<(Log, Vec<Record>), LogFault>
         requires pages { LOG_PAGES ≤ D.pages device.old }
         requires some { 1 ≤ length ends.now }
-        requires below { All (λ last. last < 2 ^ 62) ends.now }
+        requires below { All (λ last. last < LSN_LIMIT) ends.now }
         ensures opens { IfOk result (λ read. WhereTold (D.story device.old) (λ s. IsStill s → Opens ends.now (segments_of (bytes_of s)))) }
         ensures records { IfOk result (λ read. WhereTold (D.story device.old) (λ s. IsStill s → read.1.items ≡ records_of (segments_of (bytes_of s)))) }
         ensures counted { IfOk result (λ read. IsCounted read.0) }

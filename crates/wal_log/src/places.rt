@@ -1,4 +1,5 @@
-// Where the segments and their records stand on the device. Definitions and code take the numbers from here.
+// Where the segments and their records stand on the device, and the fields of a record. Definitions and code take the
+// numbers from here.
 ghost use Rattle.std.specs.Prelude.{◌≡◌, ◌<◌, ◌≤◌};
 ghost use Rattle.wal_log.specs.Places.{segment_start, record_start};
 
@@ -13,6 +14,39 @@ pub const HEADER_BYTES: u64 = 64;
 
 /// The bytes of a record with its gate.
 pub const RECORD_BYTES: u64 = 96;
+
+/// The bytes of a header behind its gate.
+pub const HEADER_BODY_BYTES: usize = 63;
+
+/// The reserved bytes of a header, counted from behind its gate.
+pub const RESERVED_AT: usize = 16;
+
+/// How many these are. Each is zero.
+pub const RESERVED_BYTES: usize = 47;
+
+/// The bytes of a record behind its gate.
+pub const RECORD_BODY_BYTES: usize = 95;
+
+/// The number of a record, counted from behind its gate like the fields after it.
+pub const LSN_AT: usize = 3;
+
+/// The key.
+pub const KEY_AT: usize = 11;
+
+/// The point.
+pub const POINT_AT: usize = 19;
+
+/// The point that the key had before.
+pub const OLD_POINT_AT: usize = 23;
+
+/// The note, and zeros to the end of the record.
+pub const NOTE_AT: usize = 27;
+
+/// The bytes of the note and these zeros.
+pub const NOTE_FIELD: usize = 68;
+
+/// Each number of a record is below this one.
+pub const LSN_LIMIT: u64 = 0x4000_0000_0000_0000;
 
 /// How many records a segment may have.
 pub const MOST_RECORDS: u64 = 2048;

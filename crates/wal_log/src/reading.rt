@@ -15,10 +15,10 @@ use crate::places::{LOG_PAGES, MOST_RECORDS, OPEN, RECORD_BYTES, record_start};
 use dev_model::{Device, Failed};
 
 /// What is read at once: a page's bytes from a record's place on.
-const WINDOW_BYTES: usize = 4096;
+pub const WINDOW_BYTES: usize = 4096;
 
 /// How many whole records these are.
-const WINDOW_RECORDS: u64 = 42;
+pub const WINDOW_RECORDS: u64 = 42;
 
 /// Why a log can't be read.
 #[derive(Clone, Copy, Debug, PartialEq, Eq)]
@@ -48,7 +48,7 @@ fn fill_window<D: Device>(
     requires below { segment < 4 }
     requires place { place ≤ MOST_RECORDS }
     requires pages { LOG_PAGES ≤ D.pages device.old }
-    requires width { length window.old ≡ 4096 }
+    requires width { length window.old ≡ WINDOW_BYTES }
     ensures here { OnOk result (WhereTold (D.story device.old) (λ s. HoldsPlaces segment place window.old s → IsReadFrom (window_start segment place) window.new s)) }
     ensures holds { OnOk result (WhereTold (D.story device.old) (HoldsPlaces segment place window.old) → WhereTold (D.story device.new) (IsReadFrom (window_start segment place) window.new)) }
     ensures reads { WhereTold (D.story device.old) (λ s. ReadsLog s (D.story device.new)) }
@@ -64,15 +64,19 @@ fn fill_window<D: Device>(
 
 /// What stands at a place of the window.
 fn find_place(window: &[u8], place: u64, first_lsn: u64) -> Found
-    requires { length window.now ≡ 4096 }
-    ensures found { IsFoundIn (96 * (place % 42)) (first_lsn + place) window.now result }
+    requires { length window.now ≡ WINDOW_BYTES }
+    ensures found { IsFoundIn (RECORD_BYTES * (place % WINDOW_RECORDS)) (first_lsn + place) window.now result }
     ensures number { HasNumber (first_lsn + place) result }
 {
     let at = RECORD_BYTES as usize * (place % WINDOW_RECORDS) as usize;
     if window[at] != OPEN {
         return Found::Closed;
     }
-    match parse(&window[at + 1..at + 96], first_lsn, place) {
+    match parse(
+        &window[at + 1..at + RECORD_BYTES as usize],
+        first_lsn,
+        place,
+    ) {
         Some(record) => Found::Sound(record),
         None => Found::Bad,
     }
@@ -89,7 +93,7 @@ fn read_place<D: Device>(
     requires below { segment < 4 }
     requires place { place ≤ MOST_RECORDS }
     requires pages { LOG_PAGES ≤ D.pages device.old }
-    requires width { length window.old ≡ 4096 }
+    requires width { length window.old ≡ WINDOW_BYTES }
     ensures found { IfOk result (λ found. WhereTold (D.story device.old) (λ s. HoldsPlaces segment place window.old s → IsPlaceStill (record_start segment place) s → IsFound (record_start segment place) (first_lsn + place) (bytes_of s) found)) }
     ensures holds { OnOk result (WhereTold (D.story device.old) (HoldsPlaces segment place window.old) → WhereTold (D.story device.new) (HoldsPlaces segment (place + 1) window.new)) }
     ensures number { IfOk result (HasNumber (first_lsn + place)) }

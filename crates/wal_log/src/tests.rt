@@ -4,27 +4,35 @@ ghost use Rattle.wal_log.specs.Examples.{first_write, first_write_bytes};
 ghost use Rattle.wal_log.specs.Records.{record_bytes, HasOld};
 ghost use Rattle.wal_log.specs.State.{IsCounted};
 
-use crate::{LOG_PAGES, Log, LogFault, LogOp, MOST_RECORDS, Record};
+use crate::{LOG_PAGES, LSN_LIMIT, Log, LogFault, LogOp, MOST_RECORDS, Record};
 use dev_model::{Device, MemDevice, Torn};
 use geo_base::{Note, Point, Row};
 use std::alloc::Global;
 use std::test::Fail;
-
-const MOST_LSN: u64 = 0x4000_0000_0000_0000;
 
 /// The example record has these bytes.
 fn example()
     ensures { record_bytes first_write ≡ first_write_bytes }
 {}
 
-/// A device with the log of an empty store: segment 0 is open, with generation 0 and the first number 1.
-fn fresh(alloc: Global) -> Option<MemDevice>
+/// A device with the log of an empty store: segment 0 is open, with generation 0 and the first number 1. It has room for
+/// so many calls and written bytes, and one of its calls, counted from 1, fails.
+fn fresh_failing(failing: u64, calls: u32, bytes: usize, alloc: Global) -> Option<MemDevice>
     ensures { IfSome result (λ device. device.pages ≡ 265) }
 {
-    let mut device = MemDevice::new(alloc, LOG_PAGES, 4000, 1000, Vec::new(alloc)).ok()?;
+    let mut fail = Vec::new(alloc);
+    fail.push(failing).ok()?;
+    let mut device = MemDevice::new(alloc, LOG_PAGES, calls, bytes, fail).ok()?;
     device.poke(36_864, 165);
     device.poke(36_880, 1);
     Some(device)
+}
+
+/// Such a device that never fails.
+fn fresh(alloc: Global) -> Option<MemDevice>
+    ensures { IfSome result (λ device. device.pages ≡ 265) }
+{
+    fresh_failing(0, 4000, 1000, alloc)
 }
 
 /// Adds the next record, and answers when it stands.
@@ -36,7 +44,7 @@ fn add(log: &mut Log, device: &mut MemDevice, op: LogOp, old_point: Option<Point
     ensures counted { IfSome result (λ _. IsCounted log.new) }
     ensures some { IfSome result (λ _. 1 ≤ log.new.records) }
 {
-    if log.records >= MOST_RECORDS || log.next_lsn >= MOST_LSN {
+    if log.records >= MOST_RECORDS || log.next_lsn >= LSN_LIMIT {
         return None;
     }
     let logged = Record {
@@ -221,28 +229,129 @@ fn read_image(
     read(&mut image, 0, alloc)
 }
 
+/// How many records each crash leaves at least, after all calls. None where one leaves a log that can't be read, more
+/// records than this, or fewer than were there before.
+fn least_left(device: &MemDevice, most: usize, alloc: Global) -> Option<usize> {
+    let mut least = 0;
+    for moment in 0..100 {
+        if moment > device.clock() {
+            return Some(least);
+        }
+        for torn in [Torn::Old, Torn::New, Torn::Fill(165), Torn::Front(40)] {
+            let count = read_image(device, moment, torn, alloc)?.ok()?;
+            if count < least || count > most {
+                return None;
+            }
+            if matches!(&torn, Torn::Old) {
+                least = count;
+            }
+        }
+    }
+    None
+}
+
 #[test]
 fn each_crash_leaves_whole_records(rt: HostRuntime) -> Result<(), Fail> {
     let alloc = rt.alloc();
     let Some(device) = three_records(alloc) else {
         panic!(rt; "no log");
     };
-    let clock = device.clock();
-    assert!(rt; clock < 100);
-    let mut least = 0;
-    for moment in 0..clock + 1 {
-        for torn in [Torn::Old, Torn::New, Torn::Fill(165), Torn::Front(40)] {
-            match read_image(&device, moment, torn, alloc) {
-                Some(Ok(count)) => {
-                    assert!(rt; least <= count && count <= 3);
-                    if matches!(&torn, Torn::Old) {
-                        least = count;
-                    }
-                }
-                _ => panic!(rt; "moment {moment}"),
-            }
+    assert_eq!(rt; least_left(&device, 3, alloc), Some(3));
+    Ok(())
+}
+
+/// Reads an empty log and adds a record. Tells whether the record stands.
+fn add_first(device: &mut MemDevice, alloc: Global) -> Option<bool>
+    requires pages { device.old.pages ≡ 265 }
+{
+    let (mut log, _) = Log::read_all(device, &[0], alloc).ok()?;
+    let first = put(7)?;
+    Some(add(&mut log, device, first, None).is_some())
+}
+
+#[test]
+fn failed_calls_are_answered(rt: HostRuntime) -> Result<(), Fail> {
+    let alloc = rt.alloc();
+    // an opening reads four gates, a header and a window of records
+    for failing in 1..7 {
+        let Some(mut device) = fresh_failing(failing, 100, 1000, alloc) else {
+            panic!(rt; "no device");
+        };
+        assert_eq!(rt;
+            read(&mut device, 0, alloc),
+            Some(Err(LogFault::Failed)),
+            "{failing}"
+        );
+    }
+    // then an append writes and syncs the record, and writes and syncs its gate
+    for (failing, stands, read_back, left) in [
+        (7, false, 0, 0),
+        (8, false, 0, 0),
+        (9, false, 0, 0),
+        (10, false, 1, 0),
+        (11, true, 1, 1),
+    ] {
+        let Some(mut device) = fresh_failing(failing, 100, 1000, alloc) else {
+            panic!(rt; "no device");
+        };
+        assert_eq!(rt; add_first(&mut device, alloc), Some(stands), "{failing}");
+        assert_eq!(rt; least_left(&device, 1, alloc), Some(left), "{failing}");
+        if failing < 11 {
+            assert_eq!(rt;
+                read(&mut device, 0, alloc),
+                Some(Ok(read_back)),
+                "{failing}"
+            );
         }
     }
-    assert_eq!(rt; least, 3);
+    Ok(())
+}
+
+/// A log whose segment 0 has as many records as it may.
+fn full(alloc: Global) -> Option<MemDevice>
+    ensures { IfSome result (λ device. device.pages ≡ 265) }
+{
+    let mut device = fresh_failing(0, 9000, 300_000, alloc)?;
+    let (mut log, _) = Log::read_all(&mut device, &[0], alloc).ok()?;
+    for _ in 0..MOST_RECORDS {
+        let row = put(7)?;
+        add(&mut log, &mut device, row, None)?;
+    }
+    Some(device)
+}
+
+/// Lays a delete of key 0, which was at the origin, at a place of segment 0, with the number that belongs there.
+fn lay_delete(device: &mut MemDevice, place: u16) -> Option<()> {
+    if device.pages() < LOG_PAGES || place > 2048 {
+        return None;
+    }
+    let gate = 36_928 + 96 * u64::from(place);
+    let [high, low] = (place + 1).to_be_bytes();
+    for at in 0..96 {
+        let byte = match at {
+            0 => 165,
+            1 => 2,
+            2 => 1,
+            10 => high,
+            11 => low,
+            _ => 0,
+        };
+        device.poke(gate + at, byte);
+    }
+    Some(())
+}
+
+#[test]
+fn a_full_segment_is_read(rt: HostRuntime) -> Result<(), Fail> {
+    let alloc = rt.alloc();
+    let Some(mut device) = full(alloc) else {
+        panic!(rt; "no log");
+    };
+    assert_eq!(rt; read(&mut device, 0, alloc), Some(Ok(2048)));
+    assert!(rt; lay_delete(&mut device, 2047).is_some());
+    assert_eq!(rt; read(&mut device, 0, alloc), Some(Ok(2048)));
+    // a sound record too many
+    assert!(rt; lay_delete(&mut device, 2048).is_some());
+    assert_eq!(rt; read(&mut device, 0, alloc), Some(Err(LogFault::BadLog(0))));
     Ok(())
 }

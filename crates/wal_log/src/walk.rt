@@ -10,7 +10,7 @@ ghost use Rattle.wal_log.specs.Found.{IsOpenStill, WhereBad, HasCauseOfFault};
 ghost use Rattle.wal_log.specs.Walk.{GoesOn, StartsAfter, EndsThere, HasReadSegment, IsUnsound, IsNewest, IsEndOf, IsCountedEnd};
 
 use crate::heads::{Head, read_heads};
-use crate::places::{LOG_PAGES, OPEN};
+use crate::places::{LOG_PAGES, LSN_LIMIT, OPEN, RESERVED_AT, RESERVED_BYTES};
 use crate::reading::read_records;
 use crate::{LogFault, Record};
 use dev_model::Device;
@@ -39,17 +39,17 @@ fn is_after(number: u64, before: u64, distance: u64) -> bool
     before <= number && number - before == distance
 }
 
-fn zeros() -> [u8; 47]
-    ensures { result ≡ replicate 47 0 }
+fn zeros() -> [u8; RESERVED_BYTES]
+    ensures { result ≡ replicate RESERVED_BYTES 0 }
 {
-    [0; 47]
+    [0; RESERVED_BYTES]
 }
 
 fn is_reserved(head: &Head) -> bool
-    ensures yes { OnTrue result (drop 16 head.now.bytes ≡ replicate 47 0) }
-    ensures no { OnFalse result (drop 16 head.now.bytes ≡ replicate 47 0 → ⊥) }
+    ensures yes { OnTrue result (drop RESERVED_AT head.now.bytes ≡ replicate RESERVED_BYTES 0) }
+    ensures no { OnFalse result (drop RESERVED_AT head.now.bytes ≡ replicate RESERVED_BYTES 0 → ⊥) }
 {
-    &head.bytes[16..] == &zeros()[..]
+    &head.bytes[RESERVED_AT..] == &zeros()[..]
 }
 
 fn goes_on(before: Option<Ended>, head: &Head) -> bool
@@ -139,7 +139,7 @@ pub fn read_segments<D: Device>(
 ) -> Result<Gathered, LogFault>
     requires pages { LOG_PAGES ≤ D.pages device.old }
     requires some { 1 ≤ length ends.now }
-    requires below { All (λ last. last < 2 ^ 62) ends.now }
+    requires below { All (λ last. last < LSN_LIMIT) ends.now }
     ensures opens { IfOk result (λ read. WhereTold (D.story device.old) (λ s. IsStill s → Opens ends.now (segments_of (bytes_of s)))) }
     ensures records { IfOk result (λ read. WhereTold (D.story device.old) (λ s. IsStill s → read.records.items ≡ records_of (segments_of (bytes_of s)))) }
     ensures counted { IfOk result (λ read. IsCountedEnd read.ended) }

@@ -1,0 +1,9 @@
+use Rattle.std.proofs.Common.{◌≡◌}
+use Rattle.wal_log.specs.State.{IsCounted}
+use Rattle.wal_log.proofs.tests.full.Given as goal
+
+abbrev pub invariant-loop : goal.invariant-loop
+invariant-loop l = record {
+  pages : l.device.pages ≡ 265;
+  counted : IsCounted l.log;
+}
