@@ -5,7 +5,7 @@ ghost use Rattle.dev_model.specs.Story.{WhereTold, IsCalmAt, Did, Ticks, bytes_o
 ghost use Rattle.dev_model.specs.Moments.{LeavesOnly};
 ghost use Rattle.image_model.specs.Opening.{IsLookedAt};
 ghost use Rattle.device_format.specs.Planning.{Formats, write_calls, write_ticks};
-ghost use Rattle.device_format.specs.Formatting.{IsFreshStore, IsBeforeOrAfter};
+ghost use Rattle.device_format.specs.Formatting.{IsFreshStore, HasNoStore, IsBeforeOrAfter, IsNoneOrEmpty};
 
 use crate::gates::{close_gates, close_superblock_if, is_superblock_open};
 use crate::superblock::write_superblock;
@@ -31,6 +31,11 @@ pub fn format_dev<D: Device>(device: &mut D, indexes: IndexSet) -> Result<(), Fa
     // empty one.
     ensures any_moment { WhereTold (D.story device.old) (λ s. IsCalmAt (IsLookedAt (bytes_of s)) s → LeavesOnly s (D.story device.new)
         (IsBeforeOrAfter (D.pages device.old) indexes (bytes_of s))) }
+
+    // Where each crash before the call left no store, each crash at each moment of the call leaves none, or the empty one. What
+    // stands elsewhere doesn't matter, nor whether it is on the disk.
+    ensures over_none { WhereTold (D.story device.old) (λ s. HasNoStore s → LeavesOnly s (D.story device.new)
+        (IsNoneOrEmpty (D.pages device.old) indexes)) }
 
     ensures same_pages { D.pages device.new ≡ D.pages device.old }
     ensures cause { HasCause (D.fault_count device.old) (D.fault_count device.new) result }
