@@ -8,3 +8,6 @@ mod superblock;
 
 pub use examples::{empty_stores, worked_formats};
 pub use format::format_dev;
+
+#[cfg(test)]
+mod tests;
