@@ -45,9 +45,7 @@ fn garbage(alloc: Global, fail: Vec<u64>) -> Option<MemDevice>
 }
 
 /// Formats the device with the indexes of these bits, and answers whether that succeeded.
-fn format(device: &mut MemDevice, bits: u8) -> Option<bool>
-    ensures { device.new.pages ≡ device.old.pages }
-{
+fn format(device: &mut MemDevice, bits: u8) -> Option<bool> {
     if device.pages() < LOG_PAGES {
         return None;
     }
@@ -55,9 +53,7 @@ fn format(device: &mut MemDevice, bits: u8) -> Option<bool>
     Some(format_dev(device, indexes).is_ok())
 }
 
-fn has_open_slot(device: &mut MemDevice) -> Option<bool>
-    ensures { device.new.pages ≡ device.old.pages }
-{
+fn has_open_slot(device: &mut MemDevice) -> Option<bool> {
     let mut is_open = false;
     for slot in 0..512u64 {
         if device.pages() < LOG_PAGES {
@@ -116,23 +112,31 @@ fn add_record(device: &mut MemDevice, alloc: Global) -> Option<()> {
     Some(())
 }
 
-/// How many images there are of each kind, at the moments from one to another: as before, no store, the empty store, and
-/// any other.
-fn count_images(device: &MemDevice, from: u64, to: u64, alloc: Global) -> Option<[u64; 4]> {
-    let mut counts = [0; 4];
-    for moment in from..=to {
-        for torn in [Torn::Old, Torn::New, Torn::Fill(0), Torn::Fill(165)] {
-            let mut image = device.image_at(moment, torn).ok()?;
-            let kind = match find(&mut image, alloc)? {
-                Finding::Store(31, 1) => 0,
-                Finding::NoStore => 1,
-                Finding::Store(4, 0) => 2,
-                _ => 3,
-            };
-            counts[kind] += 1;
-        }
-    }
-    Some(counts)
+/// What an opening finds on an image of a moment, counted from another one.
+fn find_image(
+    device: &MemDevice,
+    from: u64,
+    moment: u64,
+    torn: Torn,
+    alloc: Global,
+) -> Option<Finding> {
+    let mut image = device.image_at(from.checked_add(moment)?, torn).ok()?;
+    find(&mut image, alloc)
+}
+
+/// What it finds on four images of the moment: the open ranges as before, as written, of zeros, and of open gates.
+fn find_images(
+    device: &MemDevice,
+    from: u64,
+    moment: u64,
+    alloc: Global,
+) -> Option<[Finding; 4]> {
+    Some([
+        find_image(device, from, moment, Torn::Old, alloc)?,
+        find_image(device, from, moment, Torn::New, alloc)?,
+        find_image(device, from, moment, Torn::Fill(0), alloc)?,
+        find_image(device, from, moment, Torn::Fill(165), alloc)?,
+    ])
 }
 
 #[test]
@@ -164,10 +168,23 @@ fn each_image_is_as_before_or_no_store_or_the_empty_one(rt: HostRuntime) -> Resu
     assert_eq!(rt; add_record(&mut device, alloc), Some(()));
     let from = device.clock();
     assert_eq!(rt; format(&mut device, 4), Some(true));
-    let to = device.clock();
-    // The old store is left by each image during the read, and by two of four while the gate is closed and that is synced.
-    // So is the new one at the end. At the 523 moments between there is none.
-    assert_eq!(rt; count_images(&device, from, to, alloc), Some([8, 2100, 8, 0]));
+    assert_eq!(rt; device.clock().checked_sub(from), Some(528));
+    let old = Finding::Store(31, 1);
+    let none = Finding::NoStore;
+    let empty = Finding::Store(4, 0);
+    for (moment, found) in [
+        (0, [old, old, old, old]), // the read of the gate
+        (1, [old, none, none, old]), // the gate is closed
+        (2, [old, none, none, old]), // the sync behind it
+        (3, [none, none, none, none]), // the first slot
+        (519, [none, none, none, none]), // all gates written, and none synced
+        (525, [none, none, none, none]), // the fields written
+        (526, [none, empty, none, empty]), // the gate is opened
+        (527, [none, empty, none, empty]), // the sync behind it
+        (528, [empty, empty, empty, empty]),
+    ] {
+        assert_eq!(rt; find_images(&device, from, moment, alloc), Some(found));
+    }
     Ok(())
 }
 
