@@ -1,11 +1,10 @@
 -- How many calls a format makes, and what two empty stores share.
-use Rattle.std.proofs.Common.{◌≡◌, ℕ, zero, suc, ◌+◌, ◌<◌, ◌≤◌, List, [], ◌∷◌, ◌++◌, Bool, true, false, length, refl, sym, ◌∙◌, ap, subst, arith, length-append}
+use Rattle.std.proofs.Common.{◌≡◌, ℕ, zero, suc, [], ◌∷◌, ◌++◌, true, false, length, refl, sym, ◌∙◌, ap, arith, length-append}
 use Rattle.dev_model.specs.Story.{Bytes, Sync, part}
 use Rattle.wal_log.specs.Places.{segment_start}
-use Rattle.image_model.specs.Superblock.{superblock_bytes, declared}
+use Rattle.image_model.specs.Superblock.{superblock_bytes}
 use Rattle.image_model.specs.Directory.{slot_start}
-use Rattle.device_format.specs.Planning.{close_gate, close_each, close_gates, close_superblock_if, start_log, write_superblock, format_calls, write_ticks}
-use Rattle.device_format.specs.Formatting.{IsEmptyStore}
+use Rattle.device_format.specs.Planning.{close_gate, close_each, close_gates, start_log, write_superblock}
 use Rattle.device_format.specs.Examples.{AreCounted, HaveNoOpenSlot, HaveOneSuperblock, example_superblock}
 
 length-close_each : (gate : ℕ → ℕ) (count : ℕ) → length (close_each gate count) ≡ count

@@ -1,10 +1,10 @@
 -- What a crash leaves at each moment of a format, and what stands after it.
-use Rattle.std.proofs.Common.{◌≡◌, ◌≢◌, ◌⊎◌, inl, inr, ⊎_elim, ℕ, ◌+◌, ◌-◌, ◌<◌, ◌≤◌, List, [], ◌∷◌, ◌++◌, Bool, true, false, ◌==◌, get_or, Option, Some, None, Result, Ok, Err, refl, sym, ◌∙◌, ap, subst, arith}
+use Rattle.std.proofs.Common.{◌≡◌, ◌≢◌, ◌⊎◌, inl, inr, ⊎_elim, ℕ, ◌+◌, ◌<◌, ◌≤◌, [], ◌∷◌, ◌++◌, Bool, true, false, ◌==◌, Option, Some, None, Result, Ok, Err, refl, sym, ◌∙◌, ap, subst, arith}
 use Rattle.std.specs.Prelude.{OnOk, IsErr}
 use Rattle.std.proofs.lemmas.Bool.{cases_eq}
 use Rattle.std.proofs.lemmas.Bool.Decides.{nat_tests}
 use Rattle.std.proofs.lemmas.Option.{same_Some}
-use Rattle.dev_model.specs.Story.{Bytes, Call, Calls, Story, Read, Write, Sync, after, with_call, bytes_of, patched, all_noted, Did, HasStoppedIn, WhereTold, IsCalmAt, IsReadable, IsSettled, IsSpared, IsInside, IsImageDuring, IsImageNow}
+use Rattle.dev_model.specs.Story.{Bytes, Calls, Story, Read, Write, Sync, after, with_call, bytes_of, patched, Did, HasStoppedIn, WhereTold, IsCalmAt, IsSettled, IsImageNow}
 use Rattle.dev_model.specs.Moments.{LeavesOnly, AreSpared}
 use Rattle.dev_model.specs.Laws.Frame.{IsSettled-spared, bytes_of-spared}
 use Rattle.dev_model.specs.Laws.Images.{IsReadable-settled}
@@ -12,7 +12,7 @@ use Rattle.dev_model.specs.Laws.Plans.{LeavesOnly-did, Did-untold, all_noted-tol
 use Rattle.dev_model.specs.Laws.Ranges.{patched-outside, patched-inside}
 use Rattle.dev_model.specs.Laws.Runs.{During, after-append}
 use Rattle.image_model.specs.Opening.{IsLookedAt}
-use Rattle.device_format.specs.Planning.{close_superblock_if, close_gates, start_log, write_superblock, write_calls, write_ticks, format_calls, TellsGate, Formats}
+use Rattle.device_format.specs.Planning.{close_superblock_if, close_gates, start_log, write_superblock, write_ticks, format_calls, Formats}
 use Rattle.device_format.specs.Formatting.{IsEmptyStore, IsFreshStore, IsUnformatted, HasNoStore, LooksAs, IsNoneOrEmpty, IsBeforeOrAfter}
 use Rattle.device_format.proofs.Joining.{During-join}
 use Rattle.device_format.proofs.Ready.{IsReady, IsBehindGate, ready-same, ready-store, ready-looked}
@@ -147,8 +147,7 @@ module _ (s : Story) (calm : IsCalmAt (IsLookedAt (bytes_of s)) s) where
       → During (with_call s (Read 0 1)) (close_superblock_if is_open) P
   closing_during false is P so = tt
   closing_during true is P so =
-      let was_open : bytes_of s 0 ≡ 165 = gate-open (bytes_of s 0) is in
-      (
+      let was_open : bytes_of s 0 ≡ 165 = gate-open (bytes_of s 0) is in (
         λ image during. so image (old_or_none was_open image (λ i behind settled. during i (inr behind) settled)),
         (λ image during. so image (old_or_none was_open image (λ i behind settled. during i tt (inr behind, settled) ∙ patched-outside 0 (0 ∷ []) (bytes_of s) i (inr behind))), tt),
       )

@@ -15,9 +15,9 @@ use wal_log::{LOG_PAGES, start_segment};
 
 /// Makes the device an empty store with these declared indexes, whatever bytes it has.
 ///
-/// The superblock's gate is closed first, where it is open, and opened last. So a crash before leaves what was there, one in
-/// between leaves no store, and one after it the empty store. It takes no memory, and stops at the first call that fails:
-/// after `Failed` any of the three may be there, and the device may be formatted again.
+/// The superblock's gate is closed first, where it is open, and opened last. So a crash leaves what was there, then no store,
+/// and in the end the empty one. `Failed` comes where a call of the device failed, and that call was the last: any of the
+/// three may be there then, and the device may be formatted again. No memory is taken.
 pub fn format_dev<D: Device>(device: &mut D, indexes: IndexSet) -> Result<(), Failed>
     requires pages { LOG_PAGES ≤ D.pages device.old }
 

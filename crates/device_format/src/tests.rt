@@ -125,12 +125,7 @@ fn find_image(
 }
 
 /// What it finds on four images of the moment: the open ranges as before, as written, of zeros, and of open gates.
-fn find_images(
-    device: &MemDevice,
-    from: u64,
-    moment: u64,
-    alloc: Global,
-) -> Option<[Finding; 4]> {
+fn find_images(device: &MemDevice, from: u64, moment: u64, alloc: Global) -> Option<[Finding; 4]> {
     Some([
         find_image(device, from, moment, Torn::Old, alloc)?,
         find_image(device, from, moment, Torn::New, alloc)?,
@@ -191,7 +186,9 @@ fn each_image_is_as_before_or_no_store_or_the_empty_one(rt: HostRuntime) -> Resu
 #[test]
 fn a_call_that_fails_is_the_last(rt: HostRuntime) -> Result<(), Fail> {
     let alloc = rt.alloc();
-    for call in [1, 2, 3, 4, 515, 516, 519, 520, 521, 522, 523, 524, 525, 526, 527, 528] {
+    for call in [
+        1, 2, 3, 4, 515, 516, 519, 520, 521, 522, 523, 524, 525, 526, 527, 528,
+    ] {
         let fail = vec![in alloc; call]?;
         let Some(mut device) = garbage(alloc, fail) else {
             panic!(rt; "no device");
