@@ -74,6 +74,7 @@ module _ (pages indexes : ℕ) (bytes : Bytes) (is : IsReady pages indexes bytes
       table_is = ap (λ (l : Segments). replayed empty (records_of l)) log_is;
     };
     declares = declared_is;
+    no_records = ap records_of log_is;
   }
 
   looked_in_segment : (k : ℕ) → k < 4 → (i : ℕ) → bytes (segment_start k) ≡ 165 → segment_start k ≤ i → i ≤ record_start k (length (segment_records k bytes)) → IsBehindGate i

@@ -1,7 +1,9 @@
 -- What a device is once it is formatted, and what a crash leaves before.
-use Rattle.std.specs.Prelude.{◌≡◌, ◌≢◌, ◌⊎◌, ℕ}
+use Rattle.std.specs.Prelude.{◌≡◌, ◌≢◌, ◌⊎◌, ℕ, []}
 use Rattle.std.specs.FinMap.{empty}
 use Rattle.dev_model.specs.Story.{Bytes, Story, bytes_of, IsCalmAt, IsSettled}
+use Rattle.wal_log.specs.Segments.{segments_of}
+use Rattle.wal_log.specs.Rules.{records_of}
 use Rattle.wal_log.specs.declared.places.TheConstants.{OPEN}
 use Rattle.image_model.specs.Superblock.{declared}
 use Rattle.image_model.specs.Opening.{IsLookedAt}
@@ -11,6 +13,7 @@ use Rattle.image_model.specs.Recovered.{Recovers}
 pub record IsEmptyStore (pages indexes : ℕ) (bytes : Bytes) : Type 0 where
   pub recovers : Recovers pages empty bytes
   pub declares : declared bytes ≡ indexes
+  pub no_records : records_of (segments_of bytes) ≡ []
 
 -- such a store is what is read, and what each crash leaves where an opening looks
 pub record IsFreshStore (pages indexes : ℕ) (s : Story) : Type 0 where
