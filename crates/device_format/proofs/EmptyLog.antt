@@ -1,9 +1,9 @@
 -- The log of a store that has no record.
-use Rattle.std.proofs.Common.{◌≡◌, ℕ, ◌+◌, ◌<◌, List, [], ◌∷◌, length, Some, None, refl, arith}
+use Rattle.std.proofs.Common.{◌≡◌, ℕ, List, [], ◌∷◌, length, Some, None, refl, arith}
 use Rattle.std.proofs.lemmas.List.Elements.{All-cons, All-nil}
 use Rattle.wal_log.specs.Headers.{header_bytes, generation_in, first_lsn_in}
 use Rattle.wal_log.specs.Segments.{Segments, started_segment}
-use Rattle.wal_log.specs.Rules.{Numbered, Opens, IsEnd, records_of}
+use Rattle.wal_log.specs.Rules.{Numbered, Opens, IsEnd}
 use Rattle.image_model.specs.Opening.{ends}
 
 abbrev pub first_header : List ℕ
@@ -48,6 +48,3 @@ empty_log-opens = (
   },
   tt,
 )
-
-pub empty_log-records : records_of empty_log ≡ []
-empty_log-records = refl

@@ -1,5 +1,5 @@
 -- Calls that were planned, and then more.
-use Rattle.std.proofs.Common.{◌≡◌, ℕ, subst, List, [], ◌∷◌, ◌++◌, Option, Result, Ok, Err}
+use Rattle.std.proofs.Common.{◌≡◌, ℕ, subst, [], ◌∷◌, ◌++◌, Option, Result, Err}
 use Rattle.dev_model.specs.Story.{Bytes, Calls, Story, after, with_call, all_noted, HasStoppedIn, Did}
 use Rattle.dev_model.specs.Laws.Plans.{Did-cut, Did-then}
 use Rattle.dev_model.specs.Laws.Runs.{During}

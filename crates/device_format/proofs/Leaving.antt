@@ -1,10 +1,10 @@
 -- What a crash leaves at each moment of a format, and what stands after it.
-use Rattle.std.proofs.Common.{◌≡◌, ◌≢◌, ◌⊎◌, inl, inr, ⊎_elim, ℕ, ◌+◌, ◌-◌, ◌<◌, ◌≤◌, List, [], ◌∷◌, ◌++◌, Bool, true, false, ◌==◌, get_or, Option, Some, None, Result, Ok, Err, refl, sym, ◌∙◌, ap, subst, arith}
+use Rattle.std.proofs.Common.{◌≡◌, ◌≢◌, ◌⊎◌, inl, inr, ⊎_elim, ℕ, ◌+◌, ◌<◌, ◌≤◌, [], ◌∷◌, ◌++◌, Bool, true, false, ◌==◌, Option, Some, None, Result, Ok, Err, refl, sym, ◌∙◌, ap, subst, arith}
 use Rattle.std.specs.Prelude.{OnOk, IsErr}
 use Rattle.std.proofs.lemmas.Bool.{cases_eq}
 use Rattle.std.proofs.lemmas.Bool.Decides.{nat_tests}
 use Rattle.std.proofs.lemmas.Option.{same_Some}
-use Rattle.dev_model.specs.Story.{Bytes, Call, Calls, Story, Read, Write, Sync, after, with_call, bytes_of, patched, all_noted, Did, HasStoppedIn, WhereTold, IsCalmAt, IsReadable, IsSettled, IsSpared, IsInside, IsImageDuring, IsImageNow}
+use Rattle.dev_model.specs.Story.{Bytes, Calls, Story, Read, Write, Sync, after, with_call, bytes_of, patched, Did, HasStoppedIn, WhereTold, IsCalmAt, IsSettled, IsImageNow}
 use Rattle.dev_model.specs.Moments.{LeavesOnly, AreSpared}
 use Rattle.dev_model.specs.Laws.Frame.{IsSettled-spared, bytes_of-spared}
 use Rattle.dev_model.specs.Laws.Images.{IsReadable-settled}
@@ -12,26 +12,21 @@ use Rattle.dev_model.specs.Laws.Plans.{LeavesOnly-did, Did-untold, all_noted-tol
 use Rattle.dev_model.specs.Laws.Ranges.{patched-outside, patched-inside}
 use Rattle.dev_model.specs.Laws.Runs.{During, after-append}
 use Rattle.image_model.specs.Opening.{IsLookedAt}
-use Rattle.device_format.specs.Planning.{close_superblock_if, close_gates, start_log, write_superblock, write_calls, write_ticks, format_calls, TellsGate, Formats}
-use Rattle.device_format.specs.Formatting.{IsEmptyStore, IsFreshStore, IsUnformatted, LooksAs, IsBeforeOrAfter}
+use Rattle.device_format.specs.Planning.{close_superblock_if, close_gates, start_log, write_superblock, write_ticks, format_calls, Formats}
+use Rattle.device_format.specs.Formatting.{IsEmptyStore, IsFreshStore, IsUnformatted, HasNoStore, LooksAs, IsNoneOrEmpty, IsBeforeOrAfter}
 use Rattle.device_format.proofs.Joining.{During-join}
 use Rattle.device_format.proofs.Ready.{IsReady, IsBehindGate, ready-same, ready-store, ready-looked}
 use Rattle.device_format.proofs.Zeros.{closed-gates, spared-gates}
 use Rattle.device_format.proofs.Preparing.{IsPrepared, write_fields, prepared}
 
--- the superblock's gate is closed, and that is on the disk
-pub record IsShut (s : Story) : Type 0 where
-  pub settled : IsSettled s.past 0
-  pub closed : bytes_of s 0 ≢ 165
-
 -- calls that leave the gate alone leave it closed, and so does a crash during them
-shut_after : (s : Story) (calls : Calls) → IsShut s → AreSpared calls 0 → IsShut (after s calls)
+shut_after : (s : Story) (calls : Calls) → HasNoStore s → AreSpared calls 0 → HasNoStore (after s calls)
 shut_after s calls shut spared = record {
   settled = IsSettled-spared s calls 0 spared shut.settled;
   closed = λ is_open. shut.closed (sym (bytes_of-spared s calls 0 spared) ∙ is_open);
 }
 
-unformatted_during : (s : Story) (calls : Calls) (P : Bytes → Type 0) → ((image : Bytes) → IsUnformatted image → P image) → IsShut s → AreSpared calls 0 → During s calls P
+unformatted_during : (s : Story) (calls : Calls) (P : Bytes → Type 0) → ((image : Bytes) → IsUnformatted image → P image) → HasNoStore s → AreSpared calls 0 → During s calls P
 unformatted_during s [] P so shut spared = tt
 unformatted_during s (call ∷ calls) P so shut spared = (
   λ image is. so image (λ is_open. shut.closed (sym (is 0 spared.0 shut.settled) ∙ is_open)),
@@ -59,13 +54,13 @@ module _ (pages indexes : ℕ) (few : indexes ≤ 31) (s : Story) (ready : IsPre
   ready_after = ready-same pages indexes (bytes_of s) (bytes_of (after s open_gate)) outside ready.ready
 
   -- an image whose gate is open has all that stands behind it
-  store_behind : (image : Bytes) → ((i : ℕ) → IsBehindGate i → image i ≡ bytes_of s i) → IsUnformatted image ⊎ IsEmptyStore pages indexes image
+  store_behind : (image : Bytes) → ((i : ℕ) → IsBehindGate i → image i ≡ bytes_of s i) → IsNoneOrEmpty pages indexes image
   store_behind image same = elim (cases_eq (image 0) 165) [
     | inl is_open ↦ inr (ready-store pages indexes image (ready-same pages indexes (bytes_of s) image same ready.ready) few is_open)
     | inr shut ↦ inl shut
   ]
 
-  pub opening : (P : Bytes → Type 0) → ((image : Bytes) → IsUnformatted image ⊎ IsEmptyStore pages indexes image → P image) → During s open_gate P
+  pub opening : (P : Bytes → Type 0) → ((image : Bytes) → IsNoneOrEmpty pages indexes image → P image) → During s open_gate P
   opening P so = (
     λ image is. so image (store_behind image (λ i behind. is i (inr (omega (arith, beside i behind))) (ready.settled i behind))),
     (λ image is. so image (store_behind image (λ i behind. is i tt (inr (omega (arith, beside i behind)), ready.settled i behind) ∙ outside i behind)), tt),
@@ -116,10 +111,10 @@ module _ (pages indexes : ℕ) (few : indexes ≤ 31) (s : Story) where
   spared_log : AreSpared start_log 0
   spared_log = (inl (omega arith), (tt, (inl (omega arith), (tt, tt))))
 
-  pub rest_during : IsShut s → (P : Bytes → Type 0) → ((image : Bytes) → IsUnformatted image ⊎ IsEmptyStore pages indexes image → P image) → During s rest P
+  pub rest_during : HasNoStore s → (P : Bytes → Type 0) → ((image : Bytes) → IsNoneOrEmpty pages indexes image → P image) → During s rest P
   rest_during shut P so =
-      let shut_closed : IsShut closed_end = shut_after s close_gates shut spared-gates in
-      let shut_started : IsShut started_end = shut_after closed_end start_log shut_closed spared_log in
+      let shut_closed : HasNoStore closed_end = shut_after s close_gates shut spared-gates in
+      let shut_started : HasNoStore started_end = shut_after closed_end start_log shut_closed spared_log in
       let unformatted : (image : Bytes) → IsUnformatted image → P image = λ image is. so image (inl is) in
       During-join s close_gates (start_log ++ write_superblock indexes pages) P (unformatted_during s close_gates P unformatted shut spared-gates)
       (During-join closed_end start_log (write_superblock indexes pages) P (unformatted_during closed_end start_log P unformatted shut_closed spared_log)
@@ -152,13 +147,12 @@ module _ (s : Story) (calm : IsCalmAt (IsLookedAt (bytes_of s)) s) where
       → During (with_call s (Read 0 1)) (close_superblock_if is_open) P
   closing_during false is P so = tt
   closing_during true is P so =
-      let was_open : bytes_of s 0 ≡ 165 = gate-open (bytes_of s 0) is in
-      (
+      let was_open : bytes_of s 0 ≡ 165 = gate-open (bytes_of s 0) is in (
         λ image during. so image (old_or_none was_open image (λ i behind settled. during i (inr behind) settled)),
         (λ image during. so image (old_or_none was_open image (λ i behind settled. during i tt (inr behind, settled) ∙ patched-outside 0 (0 ∷ []) (bytes_of s) i (inr behind))), tt),
       )
 
-  pub closing_shut : (is_open : Bool) → is_open ≡ (bytes_of s 0 == 165) → IsShut (after (with_call s (Read 0 1)) (close_superblock_if is_open))
+  pub closing_shut : (is_open : Bool) → is_open ≡ (bytes_of s 0 == 165) → HasNoStore (after (with_call s (Read 0 1)) (close_superblock_if is_open))
   closing_shut false is = record { settled = gate_settled; closed = gate-shut (bytes_of s 0) is }
   closing_shut true is = record {
     settled = inl (record { from = omega arith; to = omega arith });
@@ -197,7 +191,26 @@ module _ (pages indexes : ℕ) (few : indexes ≤ 31) (s : Story) (is_open : Boo
   all_moments old new result told did calm is =
       LeavesOnly-did s (format_calls is_open indexes pages) (IsBeforeOrAfter pages indexes (bytes_of s)) old new result told did (all_during calm is) (λ image now. inr (inr (all_image image now)))
 
--- the two clauses that follow from the calls
+  -- over a superblock that is closed
+  none_during : HasNoStore s → is_open ≡ (bytes_of s 0 == 165) → During s (format_calls is_open indexes pages) (IsNoneOrEmpty pages indexes)
+  none_during none is = by_flag is_open is
+    where
+      none_read : HasNoStore read
+      none_read = record { settled = none.settled; closed = none.closed }
+
+      by_flag : (flag : Bool) → flag ≡ (bytes_of s 0 == 165) → During s (format_calls flag indexes pages) (IsNoneOrEmpty pages indexes)
+      by_flag true is = absurd (none.closed (gate-open (bytes_of s 0) is))
+      by_flag false is = (
+        λ image during. inl (λ opened. none.closed (sym (during 0 tt none.settled) ∙ opened)),
+        rest_during pages indexes few read none_read (IsNoneOrEmpty pages indexes) (λ image left. left),
+      )
+
+  pub none_moments : {X E : Type 0} (old new : Option Story) (result : Result X E) → old ≡ Some s → Did (format_calls is_open indexes pages) old new result
+      → HasNoStore s → is_open ≡ (bytes_of s 0 == 165) → LeavesOnly s new (IsNoneOrEmpty pages indexes)
+  none_moments old new result told did none is =
+      LeavesOnly-did s (format_calls is_open indexes pages) (IsNoneOrEmpty pages indexes) old new result told did (none_during none is) (λ image now. inr (all_image image now))
+
+-- the clauses that follow from the calls
 pub formatted : (X E : Type 0) (indexes pages clock clock_after : ℕ) (old new : Option Story) (result : Result X E) → indexes ≤ 31 → Formats indexes pages old new clock clock_after result
     → OnOk result (WhereTold new (IsFreshStore pages indexes))
 formatted X E indexes pages clock clock_after old new (Err e) few is = tt
@@ -210,6 +223,11 @@ pub any_moment : (X E : Type 0) (indexes pages clock clock_after : ℕ) (old new
     → WhereTold old (λ s. IsCalmAt (IsLookedAt (bytes_of s)) s → LeavesOnly s new (IsBeforeOrAfter pages indexes (bytes_of s)))
 any_moment X E indexes pages clock clock_after old new result few is s told calm =
     all_moments pages indexes few s is.is_open old new result told is.did calm (is.told s told (IsReadable-settled s.past 0 (calm 0 (inl (inl refl)))))
+
+pub over_none : (X E : Type 0) (indexes pages clock clock_after : ℕ) (old new : Option Story) (result : Result X E) → indexes ≤ 31 → Formats indexes pages old new clock clock_after result
+    → WhereTold old (λ s. HasNoStore s → LeavesOnly s new (IsNoneOrEmpty pages indexes))
+over_none X E indexes pages clock clock_after old new result few is s told none =
+    none_moments pages indexes few s is.is_open old new result told is.did none (is.told s told (IsReadable-settled s.past 0 none.settled))
 
 -- a read of the gate that failed
 more_ticks : (is_open : Bool) (clock clock_after : ℕ) → clock_after ≤ clock + 1 → clock_after ≤ clock + (1 + write_ticks is_open)

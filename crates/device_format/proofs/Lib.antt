@@ -1,4 +1,5 @@
 pub mod Closing
+pub mod Counting
 pub mod EmptyLog
 pub mod Joining
 pub mod Leaving

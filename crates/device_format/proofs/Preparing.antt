@@ -1,14 +1,14 @@
 -- What is written behind the superblock's gate once all gates are closed.
-use Rattle.std.proofs.Common.{◌≡◌, ◌≢◌, ◌⊎◌, inl, inr, ⊎_elim, ℕ, zero, suc, ◌+◌, ◌-◌, ◌<◌, ◌≤◌, List, [], ◌∷◌, ◌++◌, length, get_or, refl, sym, ◌∙◌, ap, subst, arith, length-append}
+use Rattle.std.proofs.Common.{◌≡◌, ◌≢◌, ◌⊎◌, inl, inr, ⊎_elim, ℕ, ◌+◌, ◌-◌, ◌<◌, ◌≤◌, List, [], ◌∷◌, ◌++◌, length, get_or, refl, sym, ◌∙◌, ap, subst, arith, length-append}
 use Rattle.std.proofs.lemmas.List.{get_or_append_left, get_or_at}
-use Rattle.dev_model.specs.Story.{Bytes, Calls, Story, Write, Sync, after, bytes_of, part, patched, IsReadable, IsSettled, IsInside, IsOutside}
+use Rattle.dev_model.specs.Story.{Bytes, Calls, Story, Write, Sync, after, bytes_of, part, patched, IsReadable, IsSettled}
 use Rattle.dev_model.specs.Laws.Ranges.{patched-outside, patched-inside, part-list, part-patched}
 use Rattle.wal_log.specs.Places.{segment_start}
 use Rattle.image_model.specs.Superblock.{superblock_bytes}
 use Rattle.image_model.specs.Directory.{slot_start}
 use Rattle.device_format.specs.Planning.{start_log}
 use Rattle.device_format.proofs.EmptyLog.{first_header, length-first_header}
-use Rattle.device_format.proofs.Ready.{IsReady, IsBehindGate, IsHeaderGate}
+use Rattle.device_format.proofs.Ready.{IsReady, IsBehindGate}
 use Rattle.device_format.proofs.Zeros.{HasZero, AreClosed}
 
 -- the superblock behind its gate, on the disk

@@ -1,19 +1,18 @@
 -- What has to stand behind the superblock's gate for an empty store.
-use Rattle.std.proofs.Common.{◌≡◌, ◌≢◌, ◌⊎◌, inl, inr, ⊎_elim, ℕ, zero, suc, ◌+◌, ◌-◌, ◌*◌, ◌<◌, ◌≤◌, List, [], ◌∷◌, ◌++◌, length, get_or, Some, None, refl, sym, ◌∙◌, ap, subst, arith}
-use Rattle.std.proofs.lemmas.Bool.{cases_eq}
+use Rattle.std.proofs.Common.{◌≡◌, ◌≢◌, ◌⊎◌, inl, inr, ⊎_elim, ℕ, zero, suc, ◌+◌, ◌<◌, ◌≤◌, List, [], ◌∷◌, length, get_or, Some, refl, sym, ◌∙◌, ap, subst, arith}
 use Rattle.std.specs.FinMap.{empty}
 use Rattle.dev_model.specs.Story.{Bytes, part}
 use Rattle.dev_model.specs.Laws.Ranges.{part-same, get_or-part}
 use Rattle.wal_log.specs.Places.{segment_start, record_start}
-use Rattle.wal_log.specs.Segments.{Segments, Segment, segment_at, segment_records, segments_of, started_segment, IsLooked}
+use Rattle.wal_log.specs.Segments.{Segments, segment_at, segment_records, segments_of, started_segment}
 use Rattle.wal_log.specs.Rules.{Opens as LogOpens, records_of}
 use Rattle.wal_log.specs.Laws.Agreeing.{segment_at-started, segment_at-shut}
 use Rattle.image_model.specs.Superblock.{superblock_bytes, declared}
 use Rattle.image_model.specs.Directory.{slot_start, HasNoComponent}
 use Rattle.image_model.specs.Opening.{ends, IsLookedAt, IsLookedInSuperblock, IsSlotGate, IsLookedInLog}
-use Rattle.image_model.specs.Recovered.{replayed, recovered, Recovers}
+use Rattle.image_model.specs.Recovered.{replayed}
 use Rattle.device_format.specs.Formatting.{IsEmptyStore}
-use Rattle.device_format.proofs.EmptyLog.{first_header, empty_log, empty_log-opens, empty_log-records}
+use Rattle.device_format.proofs.EmptyLog.{first_header, empty_log, empty_log-opens}
 
 -- all but the superblock's gate is as in an empty store
 pub record IsReady (pages indexes : ℕ) (bytes : Bytes) : Type 0 where
@@ -75,6 +74,7 @@ module _ (pages indexes : ℕ) (bytes : Bytes) (is : IsReady pages indexes bytes
       table_is = ap (λ (l : Segments). replayed empty (records_of l)) log_is;
     };
     declares = declared_is;
+    no_records = ap records_of log_is;
   }
 
   looked_in_segment : (k : ℕ) → k < 4 → (i : ℕ) → bytes (segment_start k) ≡ 165 → segment_start k ≤ i → i ≤ record_start k (length (segment_records k bytes)) → IsBehindGate i

@@ -1,7 +1,9 @@
 -- What a device is once it is formatted, and what a crash leaves before.
-use Rattle.std.specs.Prelude.{◌≡◌, ◌≢◌, ◌⊎◌, ℕ}
+use Rattle.std.specs.Prelude.{◌≡◌, ◌≢◌, ◌⊎◌, ℕ, []}
 use Rattle.std.specs.FinMap.{empty}
-use Rattle.dev_model.specs.Story.{Bytes, Story, bytes_of, IsCalmAt}
+use Rattle.dev_model.specs.Story.{Bytes, Story, bytes_of, IsCalmAt, IsSettled}
+use Rattle.wal_log.specs.Segments.{segments_of}
+use Rattle.wal_log.specs.Rules.{records_of}
 use Rattle.wal_log.specs.declared.places.TheConstants.{OPEN}
 use Rattle.image_model.specs.Superblock.{declared}
 use Rattle.image_model.specs.Opening.{IsLookedAt}
@@ -11,6 +13,7 @@ use Rattle.image_model.specs.Recovered.{Recovers}
 pub record IsEmptyStore (pages indexes : ℕ) (bytes : Bytes) : Type 0 where
   pub recovers : Recovers pages empty bytes
   pub declares : declared bytes ≡ indexes
+  pub no_records : records_of (segments_of bytes) ≡ []
 
 -- such a store is what is read, and what each crash leaves where an opening looks
 pub record IsFreshStore (pages indexes : ℕ) (s : Story) : Type 0 where
@@ -25,6 +28,15 @@ LooksAs old image = (i : ℕ) → IsLookedAt old i → image i ≡ old i
 abbrev pub IsUnformatted : Bytes → Type 0
 IsUnformatted image = image 0 ≢ OPEN
 
+-- no store is what is read, and what each crash leaves
+pub record HasNoStore (s : Story) : Type 0 where
+  pub settled : IsSettled s.past 0
+  pub closed : IsUnformatted (bytes_of s)
+
+-- what a crash may leave once the superblock is closed
+abbrev pub IsNoneOrEmpty : (pages indexes : ℕ) → Bytes → Type 0
+IsNoneOrEmpty pages indexes image = IsUnformatted image ⊎ IsEmptyStore pages indexes image
+
 -- what a crash may leave while a device is formatted
 abbrev pub IsBeforeOrAfter : (pages indexes : ℕ) (old image : Bytes) → Type 0
-IsBeforeOrAfter pages indexes old image = LooksAs old image ⊎ (IsUnformatted image ⊎ IsEmptyStore pages indexes image)
+IsBeforeOrAfter pages indexes old image = LooksAs old image ⊎ IsNoneOrEmpty pages indexes image

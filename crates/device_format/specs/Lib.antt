@@ -1,2 +1,3 @@
-pub mod Planning
+pub mod Examples
 pub mod Formatting
+pub mod Planning

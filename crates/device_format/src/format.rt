@@ -5,7 +5,7 @@ ghost use Rattle.dev_model.specs.Story.{WhereTold, IsCalmAt, Did, Ticks, bytes_o
 ghost use Rattle.dev_model.specs.Moments.{LeavesOnly};
 ghost use Rattle.image_model.specs.Opening.{IsLookedAt};
 ghost use Rattle.device_format.specs.Planning.{Formats, write_calls, write_ticks};
-ghost use Rattle.device_format.specs.Formatting.{IsFreshStore, IsBeforeOrAfter};
+ghost use Rattle.device_format.specs.Formatting.{IsFreshStore, HasNoStore, IsBeforeOrAfter, IsNoneOrEmpty};
 
 use crate::gates::{close_gates, close_superblock_if, is_superblock_open};
 use crate::superblock::write_superblock;
@@ -15,9 +15,9 @@ use wal_log::{LOG_PAGES, start_segment};
 
 /// Makes the device an empty store with these declared indexes, whatever bytes it has.
 ///
-/// The superblock's gate is closed first, where it is open, and opened last. So a crash before leaves what was there, one in
-/// between leaves no store, and one after it the empty store. It takes no memory, and stops at the first call that fails:
-/// after `Failed` any of the three may be there, and the device may be formatted again.
+/// The superblock's gate is closed first, where it is open, and opened last. So a crash leaves what was there, then no store,
+/// and in the end the empty one. `Failed` comes where a call of the device failed, and that call was the last: any of the
+/// three may be there then, and the device may be formatted again. No memory is taken.
 pub fn format_dev<D: Device>(device: &mut D, indexes: IndexSet) -> Result<(), Failed>
     requires pages { LOG_PAGES ≤ D.pages device.old }
 
@@ -31,6 +31,11 @@ pub fn format_dev<D: Device>(device: &mut D, indexes: IndexSet) -> Result<(), Fa
     // empty one.
     ensures any_moment { WhereTold (D.story device.old) (λ s. IsCalmAt (IsLookedAt (bytes_of s)) s → LeavesOnly s (D.story device.new)
         (IsBeforeOrAfter (D.pages device.old) indexes (bytes_of s))) }
+
+    // Where each crash before the call left no store, each crash at each moment of the call leaves none, or the empty one. What
+    // stands elsewhere doesn't matter, nor whether it is on the disk.
+    ensures over_none { WhereTold (D.story device.old) (λ s. HasNoStore s → LeavesOnly s (D.story device.new)
+        (IsNoneOrEmpty (D.pages device.old) indexes)) }
 
     ensures same_pages { D.pages device.new ≡ D.pages device.old }
     ensures cause { HasCause (D.fault_count device.old) (D.fault_count device.new) result }

@@ -1,9 +1,14 @@
 //! Formatting: what makes a device of any bytes an empty store.
 #![tactic(auto)]
 
+mod examples;
 mod format;
 mod gates;
 mod superblock;
 
+pub use examples::{empty_stores, worked_formats};
 pub use format::format_dev;
 pub use superblock::spelled as superblock_bytes;
+
+#[cfg(test)]
+mod tests;

@@ -1,6 +1,6 @@
 use Rattle.std.proofs.Common.{◌≤◌, rules}
 use Rattle.dev_model.specs.declared.streams.Failed.{Failed}
-use Rattle.device_format.proofs.Leaving.{formatted, any_moment, not_read}
+use Rattle.device_format.proofs.Leaving.{formatted, any_moment, over_none, not_read}
 use Rattle.device_format.proofs.format.format_dev.Goals as goal
 
 pub returns-in_err-is_open-clause-did : goal.returns-in_err-is_open-clause-did
@@ -27,4 +27,16 @@ pub returns-clause-any_moment : goal.returns-clause-any_moment
 returns-clause-any_moment g c =
     let few : c.args.indexes ≤ 31 = search rules in
     any_moment (Unit {0}) Failed c.args.indexes (g.D.Device.pages c.args.device.now) (g.D.Device.clock c.args.device.now) (g.D.Device.clock c.write_store.new.device) (g.D.Device.story c.args.device.now) (g.D.Device.story c.write_store.new.device)
+    c.write_store.result few (returns-clause-did g c)
+
+pub returns-in_err-is_open-clause-over_none : goal.returns-in_err-is_open-clause-over_none
+returns-in_err-is_open-clause-over_none g c =
+    let few : c.args.indexes ≤ 31 = search rules in
+    over_none (Unit {0}) Failed c.args.indexes (g.D.Device.pages c.args.device.now) (g.D.Device.clock c.args.device.now) (g.D.Device.clock c.is_superblock_open.new.device) (g.D.Device.story c.args.device.now) (g.D.Device.story c.is_superblock_open.new.device)
+    c.from_residual.result few (returns-in_err-is_open-clause-did g c)
+
+pub returns-clause-over_none : goal.returns-clause-over_none
+returns-clause-over_none g c =
+    let few : c.args.indexes ≤ 31 = search rules in
+    over_none (Unit {0}) Failed c.args.indexes (g.D.Device.pages c.args.device.now) (g.D.Device.clock c.args.device.now) (g.D.Device.clock c.write_store.new.device) (g.D.Device.story c.args.device.now) (g.D.Device.story c.write_store.new.device)
     c.write_store.result few (returns-clause-did g c)
