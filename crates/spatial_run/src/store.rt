@@ -82,7 +82,7 @@ impl Store {
         inside(alloc, &self.rows, rect)
     }
 
-    /// Answers a command. Where memory is refused, which only some commands take, nothing changes.
+    /// Answers a command. Only a put and a region take memory; where it is refused nothing changes.
     pub fn answer(&mut self, alloc: Global, command: &Command) -> Result<Answer, AllocError>
         ensures reply { IfOk result (λ a. reply_of a ≡ reply_to self.old (command_of command.now)) }
         ensures ok { OnOk result (self.new ≡ table_after self.old (command_of command.now)) }

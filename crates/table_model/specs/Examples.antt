@@ -1,5 +1,5 @@
 -- Worked examples: two lanes that each put a row and ask for it, in one of their shuffles, and then gets, dels and
--- a count; and a script of one lane with a refused command. No public contract but that of the examples needs this file.
+-- a count; a script of one lane with a refused command; and records that aren't those of their scripts. No public contract but that of the examples needs this file.
 use Rattle.std.specs.Prelude.{ℕ, List, [], ◌∷◌, Some, None, codes}
 use Rattle.geo_base.specs.declared.points.Row.{Row}
 use Rattle.geo_base.specs.declared.points.IndexKind.TheVariants.{Dhvb}
@@ -46,3 +46,17 @@ refused_record = record { setup = answered 3 (wrote put_new) ∷ refused Memory 
 
 abbrev pub refused_run_text : List ℕ
 refused_run_text = codes "0 0 put new\n1 0 put old 1 1 a\n- 0 memory\n"
+
+-- a setup alone
+abbrev pub alone : {X : Type 0} → List X → Phases X
+alone xs = record { setup = xs; lanes = []; after = [] }
+
+-- nothing stands at the key
+abbrev pub false_get : RunRecord
+false_get = alone (answered 0 (got (Some (place_of one))) ∷ [])
+
+abbrev pub false_del : RunRecord
+false_del = alone (answered 0 (wrote (del_old one.point one.note)) ∷ [])
+
+abbrev pub false_count : RunRecord
+false_count = alone (answered 0 (counted 1) ∷ [])

@@ -3,13 +3,14 @@
 // about the definitions and worked examples of them.
 #![tactic(auto)]
 
-ghost use Rattle.std.specs.Prelude.{◌≡◌, ◌++◌, List, map};
+ghost use Rattle.std.specs.Prelude.{◌≡◌, ◌++◌, List, [], ◌∷◌, map};
 ghost use Rattle.std.specs.FinMap.{empty};
 ghost use Rattle.table_model.specs.Table.{Table};
-ghost use Rattle.table_model.specs.Commands.{Command};
+ghost use Rattle.table_model.specs.Commands.{Command, write, put, del, get, count, answered, refused, counted};
 ghost use Rattle.table_model.specs.Answers.{replay, replies};
 ghost use Rattle.table_model.specs.Record.{record_text, history, FitsScript, IsAnswered};
-ghost use Rattle.table_model.specs.Examples.{shuffled_script, shuffled_record, shuffled_text, refused_script, refused_record, refused_run_text};
+ghost use Rattle.table_model.specs.declared.Why.TheVariants.{NoIndex, Memory};
+ghost use Rattle.table_model.specs.Examples.{shuffled_script, shuffled_record, shuffled_text, refused_script, refused_record, refused_run_text, alone, one, false_get, false_del, false_count};
 
 /// Why a command was refused.
 #[derive(Clone, Copy, Debug, PartialEq, Eq)]
@@ -42,4 +43,17 @@ pub fn worked_records()
     ensures shuffled_text { record_text shuffled_script shuffled_record ≡ shuffled_text }
     ensures refused { FitsScript refused_script refused_record }
     ensures refused_text { record_text refused_script refused_record ≡ refused_run_text }
+{}
+
+/// Worked examples of what is excluded: answers that aren't those of the empty table, refusals that a command can't
+/// have, a command without an outcome, and answers against the script's order.
+pub fn worked_exclusions()
+    ensures false_get { IsAnswered empty (history (alone (get 1 ∷ [])) false_get) → ⊥ }
+    ensures false_del { IsAnswered empty (history (alone (write (del 1) ∷ [])) false_del) → ⊥ }
+    ensures false_count { IsAnswered empty (history (alone (count ∷ [])) false_count) → ⊥ }
+    ensures refused_count { FitsScript (alone (count ∷ [])) (alone (refused Memory ∷ [])) → ⊥ }
+    ensures get_without_memory { FitsScript (alone (get 1 ∷ [])) (alone (refused Memory ∷ [])) → ⊥ }
+    ensures put_without_an_index { FitsScript (alone (write (put one) ∷ [])) (alone (refused NoIndex ∷ [])) → ⊥ }
+    ensures no_outcome { FitsScript (alone (count ∷ [])) (alone []) → ⊥ }
+    ensures wrong_order { FitsScript (alone (count ∷ count ∷ [])) (alone (answered 1 (counted 0) ∷ answered 0 (counted 0) ∷ [])) → ⊥ }
 {}

@@ -1,18 +1,13 @@
-use Rattle.std.proofs.Common.{◌≡◌, length, [], ◌∷◌, ap, sym, ◌∙◌, refl, Some, None}
+use Rattle.std.proofs.Common.{◌≡◌, length, [], ◌∷◌, ap, ◌∙◌, refl, Some, None}
 use Rattle.std.specs.Prelude.{is_some, cond, ◌-◌}
 use Rattle.std.specs.Fmt.{digits}
 use Rattle.std.specs.Ordering.{nat_cmp}
 use Rattle.std.specs.Cmp.{nat_cmp_total}
-use Rattle.std.specs.FinMap.{empty, insert, remove, get, len, entries, find, put, entries-insert, entries-from_sorted, from_sorted, empty_of_len, len-entries, len-remove, get-empty, get-entries}
+use Rattle.std.specs.FinMap.{empty, insert, remove, get, len, entries, find, put, entries-insert, empty_of_len, len-entries, len-remove, get-empty, get-entries}
 use Rattle.table_model.specs.Table.{Table, Place, place_of}
 use Rattle.table_model.specs.Examples.{one, two}
+use Rattle.table_model.proofs.Empty.{no_entries}
 use Rattle.table_model.proofs.worked_records.Goals as goal
-
-no_entries : entries (empty {X = Place} {R = nat_cmp}) ≡ []
-no_entries =
-    let nothing : Table = from_sorted [] in
-    let listed : entries nothing ≡ [] = entries-from_sorted nat_cmp [] tt in
-    sym (ap entries (empty_of_len nothing (len-entries nothing ∙ ap (λ es. length es) listed))) ∙ listed
 
 -- a table of one key without it
 emptied : (t : Table) (place : Place) → entries t ≡ (1, place) ∷ [] → remove t 1 ≡ empty

@@ -1,0 +1,42 @@
+use Rattle.std.proofs.Common.{◌≡◌, length, map, List, [], ◌∷◌, ap, ◌∙◌, arith, Some, None}
+use Rattle.std.specs.Ordering.{nat_cmp}
+use Rattle.std.specs.FinMap.{get-empty}
+use Rattle.table_model.specs.Table.{Place, row_at}
+use Rattle.table_model.specs.Commands.{Reply, wrote, got, counted, del_none, del_old}
+use Rattle.table_model.specs.Answers.{del_reply}
+use Rattle.table_model.specs.Examples.{one}
+use Rattle.table_model.proofs.Empty.{no_entries}
+use Rattle.table_model.proofs.worked_exclusions.Goals as goal
+
+not_there : (p : Place) → ◌≡◌ {A = List Reply} (got (Some p) ∷ []) (got None ∷ []) → ⊥
+not_there p h = cc
+
+not_taken : ◌≡◌ {A = List Reply} (wrote (del_old one.point one.note) ∷ []) (wrote del_none ∷ []) → ⊥
+not_taken h = cc
+
+not_one : ◌≡◌ {A = List Reply} (counted 1 ∷ []) (counted 0 ∷ []) → ⊥
+not_one h = cc
+
+pub returns-clause-false_get : goal.returns-clause-false_get
+returns-clause-false_get c = λ h. not_there _ (h ∙ ap (λ found. got found ∷ []) (get-empty nat_cmp 1))
+
+pub returns-clause-false_del : goal.returns-clause-false_del
+returns-clause-false_del c = λ h. not_taken (h ∙ ap (λ found. wrote (del_reply found) ∷ []) (get-empty nat_cmp 1))
+
+pub returns-clause-false_count : goal.returns-clause-false_count
+returns-clause-false_count c = λ h. not_one (h ∙ ap (λ es. counted (length (map row_at es)) ∷ []) no_entries)
+
+pub returns-clause-refused_count : goal.returns-clause-refused_count
+returns-clause-refused_count c = λ fits. fits.setup.0
+
+pub returns-clause-get_without_memory : goal.returns-clause-get_without_memory
+returns-clause-get_without_memory c = λ fits. fits.setup.0
+
+pub returns-clause-put_without_an_index : goal.returns-clause-put_without_an_index
+returns-clause-put_without_an_index c = λ fits. fits.setup.0
+
+pub returns-clause-no_outcome : goal.returns-clause-no_outcome
+returns-clause-no_outcome c = λ fits. fits.setup
+
+pub returns-clause-wrong_order : goal.returns-clause-wrong_order
+returns-clause-wrong_order c = λ fits. absurd (omega (arith, fits.setup_rises.0))
