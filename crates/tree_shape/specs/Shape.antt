@@ -1,13 +1,8 @@
 -- How many pages each level of a tree has. The leaves are level 0; the pages of a level stand behind those of the levels
 -- below it, and the root is the last page.
-use Rattle.std.specs.Prelude.{◌≡◌, ℕ, zero, suc, ◌+◌, ◌*◌, ◌^◌, ◌<◌, max}
+use Rattle.std.specs.Prelude.{◌≡◌, ℕ, zero, suc, ◌+◌, ◌*◌, ◌^◌, ◌<◌, max, List, [], ◌∷◌, take, drop}
 use Rattle.std.specs.Int.{div_ceil}
-
--- how many rows a tree has, a full leaf and a full page above
-pub record Shape : Type 0 where
-  pub per_leaf : ℕ
-  pub per_inner : ℕ
-  pub rows : ℕ
+use Rattle.tree_shape.specs.declared.levels.Shape.{Shape}
 
 -- how many pages a level has
 unfoldable pub level_size : Shape → ℕ → ℕ
@@ -32,3 +27,12 @@ pub record IsRoot (s : Shape) (level : ℕ) : Type 0 where
 pub record IsPlace (s : Shape) (level at : ℕ) : Type 0 where
   pub inside : at < level_size s level
   pub up_to_root : (below : ℕ) → below < level → 1 < level_size s below
+
+-- the numbers from one on
+unfoldable pub numbers : (from count : ℕ) → List ℕ
+numbers from zero = []
+numbers from (suc n) = from ∷ numbers (suc from) n
+
+-- the places of the children of a page, in a level of that size
+abbrev pub children_at : (size many at : ℕ) → List ℕ
+children_at size many at = take many (drop (at * many) (numbers 0 size))

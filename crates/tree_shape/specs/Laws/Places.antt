@@ -1,19 +1,40 @@
--- How an image is written: its numbers fit, and rows are put on a page one after the other.
-use Rattle.std.proofs.Common.{◌≡◌, ℕ, zero, suc, ◌+◌, ◌-◌, ◌*◌, ◌/◌, ◌^◌, ◌<◌, ◌≤◌, min, slice_get, Some, List, [], ◌∷◌, ◌++◌, take, drop, map, length, get_or, arith, refl, sym, ◌∙◌, ap, subst, inl, inr, length-drop, get_or-drop}
-use Rattle.std.proofs.Math.Nat.{mul-le-mul_left}
+-- Where the pages of a tree stand, how many there are, and which rows are below them.
+use Rattle.std.proofs.Common.{◌≡◌, ℕ, zero, suc, ◌+◌, ◌-◌, ◌*◌, ◌/◌, ◌^◌, ◌<◌, ◌≤◌, arith, refl, sym, ◌∙◌, ap, subst, inl, inr}
+use Rattle.std.proofs.Math.Nat.{mul-le-mul_left, pow-zero}
+use Rattle.std.proofs.Math.Numerals.{add-one}
 use Rattle.std.proofs.lemmas.Bool.{cases_lt, cases_order}
-use Rattle.std.proofs.lemmas.List.{take_more, map-append}
 use Rattle.std.proofs.lemmas.Grind.{div_ceil_times}
 use Rattle.std.specs.Int.{div_ceil}
-use Rattle.page_codec.specs.Page.{most_rows, kind_of, row_count, page_of, AllOfWidth}
-use Rattle.page_codec.specs.Laws.{row_count-page_of}
-use Rattle.btree_image.specs.Shape.{Shape, level_size, level_start, span, IsPlace, IsRoot}
-use Rattle.btree_image.specs.Image.{numbers, shape_of}
-use Rattle.btree_image.proofs.Sizes.{level_start-zero}
-use Rattle.btree_image.proofs.Covers.{level_size-zero, level_size-suc, span-zero}
-use Rattle.btree_image.proofs.Children.{child_has_row}
-use Rattle.btree_image.proofs.Told.{rows_above}
-use Rattle.btree_image.specs.Rows.{Layout}
+use Rattle.tree_shape.specs.declared.levels.Shape.{Shape}
+use Rattle.tree_shape.specs.Shape.{level_size, level_start, span, IsPlace, IsRoot}
+use Rattle.tree_shape.specs.Laws.Sizes.{level_start-zero, still_halved, few_levels}
+use Rattle.tree_shape.specs.Laws.Covers.{level_size-zero, level_size-suc, span-zero, span-next}
+
+-- each child but the first of a level has a row
+pub child_has_row : (s : Shape) → 1 ≤ s.per_leaf → 2 ≤ s.per_inner → (level c : ℕ) → 1 ≤ c → c < level_size s level → c * span s level < s.rows
+child_has_row s a b zero c some h =
+    let times = (div_ceil_times s.rows s.per_leaf a).1 in
+    let size = level_size-zero s in
+    let c_below : suc c ≤ div_ceil s.rows s.per_leaf = omega (arith, size, h) in
+    let more : s.per_leaf * suc c ≤ s.per_leaf * div_ceil s.rows s.per_leaf = mul-le-mul_left s.per_leaf c_below in
+    rw (span-zero s) (omega (arith, times, more))
+child_has_row s a b (suc level) c some h =
+    let times = (div_ceil_times (level_size s level) s.per_inner (omega arith)).1 in
+    let c_below : suc c ≤ div_ceil (level_size s level) s.per_inner = subst (λ n. c < n) (level_size-suc s level) h in
+    let more : s.per_inner * suc c ≤ s.per_inner * div_ceil (level_size s level) s.per_inner = mul-le-mul_left s.per_inner c_below in
+    let one : c * 1 ≤ c * s.per_inner = mul-le-mul_left c (omega arith) in
+    let below = child_has_row s a b level (c * s.per_inner) (omega arith) (omega (arith, times, more)) in
+    rw (span-next s level) (let e : c * (span s level * s.per_inner) ≡ c * s.per_inner * span s level = omega arith in rw e below)
+
+pub root_unique : (s : Shape) (m n : ℕ) → IsRoot s m → IsRoot s n → m ≡ n
+root_unique s m n a b =
+    elim (cases_order m n) [
+      | inl same ↦ same
+      | inr apart ↦ elim apart [
+        | inl lt ↦ absurd (let more = b.lowest m lt in let one = a.alone in omega arith)
+        | inr gt ↦ absurd (let more = a.lowest n gt in let one = b.alone in omega arith)
+      ]
+    ]
 
 level_start-suc : (s : Shape) (level : ℕ) → level_start s (suc level) ≡ level_start s level + level_size s level
 unfolding level_start
@@ -55,12 +76,6 @@ pages_fit s a b h level low =
     let few = few_pages s b level in
     let leaves = few_leaves s a h in
     omega arith
-
-take_of_length-le : {T : Type 0} (xs : List T) (n : ℕ) → length xs ≤ n → take n xs ≡ xs
-take_of_length-le [] zero h = refl
-take_of_length-le [] (suc n) h = refl
-take_of_length-le (x ∷ xs) zero h = absurd (omega arith)
-take_of_length-le (x ∷ xs) (suc n) h = ap (λ ys. x ∷ ys) (take_of_length-le xs n (omega arith))
 
 -- a level stands behind those below it
 start-later : (s : Shape) (low more : ℕ) → level_start s low + level_size s low ≤ level_start s (suc low + more)
@@ -105,46 +120,6 @@ at_place s P n a x b y p e h q f =
     let at : x ≡ y = let starts = ap (level_start s) same in omega arith in
     subst (λ level. P level y) same (subst (P a) at h)
 
-pub kind_of-page_of : (kind level : ℕ) (rows : List (List ℕ)) → kind_of (page_of kind level rows) ≡ kind
-unfolding page_of
-kind_of-page_of kind level rows = refl
-
-pub wide-snoc : (width : ℕ) (rows : List (List ℕ)) (row : List ℕ) → AllOfWidth width rows → length row ≡ width → AllOfWidth width (rows ++ row ∷ [])
-wide-snoc width [] row wide e = (e, tt)
-wide-snoc width (first ∷ rows) row wide e = (wide.0, wide-snoc width rows row wide.1 e)
-
-pub numbers-snoc : (from n : ℕ) → numbers from (suc n) ≡ numbers from n ++ (from + n) ∷ []
-unfolding numbers
-numbers-snoc from zero = let e : from + 0 ≡ from = omega arith in rw e refl
-numbers-snoc from (suc n) = let e : from + suc n ≡ suc from + n = omega arith in rw e (ap (λ ns. from ∷ ns) (numbers-snoc (suc from) n))
-
-pub one_more_number : (f : ℕ → List ℕ) (from child : ℕ) → from ≤ child
-    → map f (numbers from (child + 1 - from)) ≡ map f (numbers from (child - from)) ++ f child ∷ []
-one_more_number f from child h =
-    let e : child + 1 - from ≡ suc (child - from) = omega arith in
-    let here : from + (child - from) ≡ child = omega arith in
-    rw e (ap (map f) (numbers-snoc from (child - from)) ∙ (map-append f (numbers from (child - from)) ((from + (child - from)) ∷ [])
-    ∙ ap (λ c. map f (numbers from (child - from)) ++ f c ∷ []) here))
-
-module _ {T : Type 0} (f : T → List ℕ) (rows : List T) where
-  pub one_more_row : (from i : ℕ) (row : T) → from ≤ i → i < length rows → row ≡ get_or rows i row
-      → map f (take (i + 1 - from) (drop from rows)) ≡ map f (take (i - from) (drop from rows)) ++ f row ∷ []
-  one_more_row from i row h inside is =
-      let e : i + 1 - from ≡ i - from + 1 = omega arith in
-      let here : from + (i - from) ≡ i = omega arith in
-      let long = length-drop from rows in
-      let row_is : get_or (drop from rows) (i - from) row ≡ row = get_or-drop from rows (i - from) row ∙ (ap (λ n. get_or rows n row) here ∙ sym is) in
-      rw e (ap (map f) (take_more (drop from rows) (i - from) row (omega arith)) ∙ (map-append f (take (i - from) (drop from rows)) (get_or (drop from rows) (i - from) row ∷ [])
-      ∙ ap (λ r. map f (take (i - from) (drop from rows)) ++ f r ∷ []) row_is))
-
-  pub all_rows : (from w i : ℕ) → i ≡ min (from + w) (length rows) → from ≤ length rows → take (i - from) (drop from rows) ≡ take w (drop from rows)
-  all_rows from w i e h = elim (cases_lt (length rows) (from + w)) [
-    | inr le ↦ ap (λ n. take n (drop from rows)) (omega arith)
-    | inl lt ↦ (
-        let long = length-drop from rows in
-        take_of_length-le (drop from rows) (i - from) (omega arith) ∙ sym (take_of_length-le (drop from rows) w (omega arith)))
-  ]
-
 -- the page at a place begins within its list
 pub page_within : (s : Shape) → 1 ≤ s.per_leaf → 2 ≤ s.per_inner → (at : ℕ) → at < level_size s 0 → at * s.per_leaf ≤ s.rows
 page_within s a b zero h = omega arith
@@ -153,14 +128,6 @@ page_within s a b (suc at) h =
     let one = span-zero s in
     let e : suc at * span s 0 ≡ suc at * s.per_leaf = ap (λ n. suc at * n) one in
     omega arith
-
--- a row fits where so many were put so far
-pub room : (kind level w n : ℕ) (rows : List (List ℕ)) (page : List ℕ) → page ≡ page_of kind level rows → length rows ≡ n → n < most_rows kind
-    → row_count page < most_rows (kind_of page)
-room kind level w n rows page e count h =
-    let k : kind_of page ≡ kind = ap kind_of e ∙ kind_of-page_of kind level rows in
-    let c : row_count page ≡ length rows = ap row_count e ∙ row_count-page_of kind level rows in
-    rw (k, c, count) h
 
 -- and so does a page above the leaves
 pub page_begins : (s : Shape) → 2 ≤ s.per_inner → (below at : ℕ) → at < level_size s (suc below) → at * s.per_inner ≤ level_size s below
@@ -171,21 +138,57 @@ page_begins s b below at h =
     let more : s.per_inner * suc at ≤ s.per_inner * div_ceil (level_size s below) s.per_inner = mul-le-mul_left s.per_inner last in
     omega (arith, times, more)
 
-pub get_at : {T : Type 0} (rows : List T) (i : ℕ) (row : T) → i < length rows → row ≡ get_or rows i row → slice_get rows i ≡ Some row
-get_at [] i row h e = absurd (omega arith)
-get_at (x ∷ xs) zero row h e = ap Some (sym e)
-get_at (x ∷ xs) (suc i) row h e = get_at xs i row (omega arith) e
+-- the places of the level below a place
+pub place_below : (s : Shape) (level at below_at : ℕ) → IsPlace s (suc level) at → below_at < level_size s level → IsPlace s level below_at
+place_below s level at below_at place inside = record { inside = inside; up_to_root = λ j h. place.up_to_root j (omega arith) }
+
+-- a tree with a level above its leaves has rows
+pub rows_above : (s : Shape) (level at : ℕ) → 1 ≤ s.per_leaf → IsPlace s (suc level) at → 0 < s.rows
+rows_above s level at a place =
+    elim (cases_lt 0 s.rows) [
+      | inl some ↦ some
+      | inr none ↦ absurd (
+          let more : 1 < level_size s 0 = place.up_to_root 0 (omega arith) in
+          let size = level_size-zero s in
+          let times = (div_ceil_times s.rows s.per_leaf a).1 in
+          let zero_rows : s.rows ≡ 0 = omega arith in
+          let none_needed : div_ceil s.rows s.per_leaf ≡ 0 = rw zero_rows (div_ceil-zero s.per_leaf a) in
+          omega arith)
+    ]
+  where
+    div_ceil-zero : (m : ℕ) → 1 ≤ m → div_ceil 0 m ≡ 0
+    div_ceil-zero m a = omega arith
+
+halves : (s : Shape) → 2 ≤ s.per_inner → level_size s 0 ≤ 2 ^ 32 → (level : ℕ) → (level_size s level - 1) * 2 ^ level ≤ 2 ^ 32
+halves s b few zero = rw (pow-zero 2) (omega arith)
+halves s b few (suc level) =
+    let below = halves s b few level in
+    let next = still_halved (level_size s level) s.per_inner level (2 ^ 32) b below in
+    rw (level_size-suc s level) (subst (λ n. (div_ceil (level_size s level) s.per_inner - 1) * 2 ^ n ≤ 2 ^ 32) (add-one level) next)
+
+pub number_fits : (s : Shape) → 52 ≤ s.per_leaf → 2 ≤ s.per_inner → s.rows < 2 ^ 32 → (level at : ℕ) → IsPlace s level at → level_start s level + at < 2 ^ 31
+number_fits s a b h zero at place =
+    let fits = pages_fit s a b h 0 (omega arith) in
+    let inside = place.inside in
+    omega arith
+number_fits s a b h (suc level) at place =
+    let few = few_leaves s a h in
+    let more = place.up_to_root level (omega arith) in
+    let low = few_levels (level_size s level) level 32 more (halves s b (omega arith) level) in
+    let fits = pages_fit s a b h (suc level) (omega arith) in
+    let inside = place.inside in
+    omega arith
 
 -- the first row below a child is one of the list's
-pub first_row : {T K : Type 0} (l : Layout T K) (count below at child step : ℕ) → 1 ≤ most_rows l.leaf → 2 ≤ most_rows l.inner
-    → IsPlace (shape_of l count) (suc below) at → child < level_size (shape_of l count) below → step ≡ span (shape_of l count) below → child * step < count
-first_row l count below at child step a b place within step_is =
+pub first_row : (s : Shape) (below at child step : ℕ) → 1 ≤ s.per_leaf → 2 ≤ s.per_inner
+    → IsPlace s (suc below) at → child < level_size s below → step ≡ span s below → child * step < s.rows
+first_row s below at child step a b place within step_is =
     let e = ap (λ n. child * n) step_is in
     elim (cases_lt 0 child) [
-      | inl some ↦ (let row = child_has_row (shape_of l count) a b below child some within in omega (arith, row, e))
+      | inl some ↦ (let row = child_has_row s a b below child some within in omega (arith, row, e))
       | inr none ↦ (
           let first : child ≡ 0 = omega arith in
-          let some = rows_above l count below at a place in
+          let some = rows_above s below at a place in
           let z : child * step ≡ 0 * step = ap (λ n. n * step) first in
           omega (arith, some, z))
     ]
