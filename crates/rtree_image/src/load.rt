@@ -81,8 +81,9 @@ fn load_inner(rows: &[RtRow], below: u8, at: u64, page: &mut [u8; PAGE_BYTES])
 {
     let here = level_at(rows.len() as u32, below);
     let step = step_of(rows.len() as u32, below);
-    let from = at * per_inner();
-    let to = (from + per_inner()).min(here.size);
+    let many = per_inner();
+    let from = at * many;
+    let to = (from + many).min(here.size);
     new_page(RTREE_INNER, below + 1, page);
     for child in from..to {
         let bounds = child_bounds(rows, step, child);

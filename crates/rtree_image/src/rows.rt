@@ -2,7 +2,7 @@
 
 ghost use Rattle.std.specs.Prelude.{◌≡◌, length};
 ghost use Rattle.std.specs.Int.{from_be_bytes, w16, w32, w64};
-ghost use Rattle.rtree_image.specs.Rows.{row_bytes, row_of, IsStored};
+ghost use Rattle.rtree_image.specs.Rows.{row_bytes, row_of};
 
 use geo_base::Point;
 
@@ -43,10 +43,8 @@ fn key_in(bytes: &[u8]) -> u64
 
 // The bytes of a row on a leaf.
 pub(crate) fn to_bytes(row: &RtRow) -> [u8; ROW_BYTES]
-    ensures bytes { result ≡ row_bytes row.now }
-    ensures stored { IsStored row.now }
+    ensures { result ≡ row_bytes row.now }
 {
-    let row = *row;
     let [a, b] = row.point.x.to_be_bytes();
     let [c, d] = row.point.y.to_be_bytes();
     let [e, f, g, h, i, j, k, l] = row.key.to_be_bytes();
