@@ -1,2 +1,3 @@
 pub mod Bounded
 pub mod Loading
+pub mod Picked

@@ -10,6 +10,8 @@ mod in_page;
 mod levels;
 mod load;
 mod rows;
+mod walk;
 
 pub use load::{load_page, pages_for};
 pub use rows::RtRow;
+pub use walk::search;

@@ -14,7 +14,7 @@ length-rows_in w (suc n) xs = ap suc (length-rows_in w n (drop w xs))
 pub length-rows_on : (bytes : List ℕ) → length (rows_on bytes) ≡ row_count bytes
 length-rows_on bytes = length-rows_in _ _ _
 
-take_of_length-le : {T : Type 0} (xs : List T) (n : ℕ) → length xs ≤ n → take n xs ≡ xs
+pub take_of_length-le : {T : Type 0} (xs : List T) (n : ℕ) → length xs ≤ n → take n xs ≡ xs
 take_of_length-le [] zero h = refl
 take_of_length-le [] (suc n) h = refl
 take_of_length-le (x ∷ xs) zero h = absurd (omega arith)
