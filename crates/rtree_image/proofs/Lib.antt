@@ -1,3 +1,5 @@
 pub mod Bounded
 pub mod Loading
 pub mod Picked
+pub mod Ascending
+pub mod Pruned
