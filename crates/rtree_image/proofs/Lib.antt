@@ -3,3 +3,5 @@ pub mod Loading
 pub mod Picked
 pub mod Ascending
 pub mod Pruned
+pub mod Shown
+pub mod Walked

@@ -1,9 +1,10 @@
 -- Lists of what passes a test, one more at a time.
-use Rattle.std.proofs.Common.{◌≡◌, ℕ, zero, suc, ◌+◌, ◌-◌, ◌<◌, ◌≤◌, Bool, List, [], ◌∷◌, ◌++◌, take, map, length, get_or, arith, refl, sym, ◌∙◌, ap, append_assoc, inl, inr}
+use Rattle.std.proofs.Common.{◌≡◌, ℕ, zero, suc, ◌+◌, ◌-◌, ◌<◌, ◌≤◌, Bool, List, [], ◌∷◌, ◌++◌, take, map, length, get_or, arith, refl, sym, ◌∙◌, ap, append_assoc, append-nil, inl, inr}
 use Rattle.std.specs.Prelude.{if◌then◌else◌, true, false}
-use Rattle.std.specs.List.{filter}
+use Rattle.std.specs.List.{filter, flat_map}
 use Rattle.std.proofs.lemmas.Bool.{cases_Bool}
 use Rattle.std.proofs.lemmas.List.{take_more, map-append}
+use Rattle.std.proofs.lemmas.List.Concat.{flat_map-append}
 use Rattle.std.proofs.Math.Numerals.{add-one}
 use Rattle.tree_shape.specs.Shape.{numbers}
 use Rattle.tree_shape.specs.Laws.Writing.{numbers-snoc}
@@ -40,3 +41,10 @@ one_more_row test f rows i row old so_far new inside before here step =
     let more : map f (take (i + 1) rows) ≡ map f (take i rows) ++ row ∷ [] =
     ap (map f) (take_more rows i [] inside) ∙ (map-append f (take i rows) (get_or rows i [] ∷ []) ∙ ap (λ r. map f (take i rows) ++ r ∷ []) (sym here)) in
     one_more test old so_far new (map f (take i rows)) row before step ∙ ap (λ ys. old ++ filter test ys) (sym more)
+
+-- what one place more adds
+pub flat-more : {X : Type 0} (f : ℕ → List X) (places : List ℕ) (i d : ℕ) → i < length places
+    → flat_map f (take (i + 1) places) ≡ flat_map f (take i places) ++ f (get_or places i d)
+flat-more f places i d inside =
+    ap (flat_map f) (take_more places i d inside)
+    ∙ (flat_map-append f (take i places) (get_or places i d ∷ []) ∙ ap (λ ys. flat_map f (take i places) ++ ys) (append-nil (f (get_or places i d))))
