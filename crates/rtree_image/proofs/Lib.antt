@@ -5,3 +5,4 @@ pub mod Ascending
 pub mod Pruned
 pub mod Shown
 pub mod Walked
+pub mod Downward
