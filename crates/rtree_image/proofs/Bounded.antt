@@ -1,7 +1,5 @@
 -- Where the bounds of some points meet a rectangle.
-use Rattle.std.proofs.Common.{◌≡◌, ℕ, zero, suc, ◌+◌, ◌-◌, ◌<◌, ◌≤◌, min, max, Bool, true, false, List, [], ◌∷◌, ◌++◌, take, drop, length, get_or, arith, refl, sym, ◌∙◌, ap, subst, inl, inr}
-use Rattle.std.specs.Prelude.{nat_le, ◌&&◌, if◌then◌else◌}
-use Rattle.std.specs.List.{filter}
+use Rattle.std.proofs.Common.{◌≡◌, ℕ, zero, suc, ◌+◌, ◌-◌, ◌<◌, ◌≤◌, min, max, true, false, List, [], ◌∷◌, ◌++◌, take, drop, length, get_or, arith, refl, sym, ◌∙◌, ap, subst, inl, inr}
 use Rattle.std.proofs.lemmas.Bool.{leb-true, le-leb, and_parts, and_from, cases_Bool, true≢false}
 use Rattle.std.proofs.lemmas.List.{take_more, drop-take}
 use Rattle.geo_base.specs.Corners.{Corners}
@@ -10,7 +8,7 @@ use Rattle.geo_base.specs.declared.points.Point.{Point}
 use Rattle.rtree_image.specs.declared.rows.RtRow.{RtRow}
 use Rattle.rtree_image.specs.declared.bounds.Bounds.{Bounds}
 use Rattle.rtree_image.specs.Bounds.{bounding, widened, meets}
-use Rattle.rtree_image.specs.Visits.{is_inside, rows_inside}
+use Rattle.rtree_image.specs.Visits.{rows_inside}
 
 -- one point and then another, or the other way round
 widened_twice : (b : Bounds) (p q : Point) → widened (widened b p) q ≡ widened (widened b q) p

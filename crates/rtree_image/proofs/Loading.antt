@@ -1,5 +1,5 @@
 -- How the rows of a list come onto a page.
-use Rattle.std.proofs.Common.{◌≡◌, ℕ, suc, ◌+◌, ◌-◌, ◌*◌, ◌<◌, ◌≤◌, List, [], ◌∷◌, ◌++◌, take, drop, map, length, get_or, arith, ◌∙◌, ap, length-drop, get_or-drop}
+use Rattle.std.proofs.Common.{◌≡◌, ℕ, ◌+◌, ◌-◌, ◌<◌, ◌≤◌, List, [], ◌∷◌, ◌++◌, take, drop, map, length, get_or, arith, ◌∙◌, ap, length-drop, get_or-drop}
 use Rattle.std.proofs.lemmas.List.{take_more, map-append}
 
 pub one_more_at : {T : Type 0} (f : T → List ℕ) (rows : List T) (from i : ℕ) (d : T) → from ≤ i → i < length rows

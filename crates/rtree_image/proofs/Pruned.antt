@@ -1,15 +1,14 @@
 -- A search that goes on only where bounds meet the rectangle leaves nothing out.
-use Rattle.std.proofs.Common.{◌≡◌, ℕ, zero, suc, ◌+◌, ◌-◌, ◌*◌, ◌<◌, ◌≤◌, min, Bool, true, false, List, [], ◌∷◌, ◌++◌, take, drop, length, arith, refl, sym, ◌∙◌, ap, subst, inl, inr, append-nil}
+use Rattle.std.proofs.Common.{◌≡◌, ℕ, zero, suc, ◌+◌, ◌-◌, ◌*◌, ◌<◌, ◌≤◌, min, Bool, true, false, List, [], ◌∷◌, ◌++◌, take, drop, length, arith, refl, sym, ◌∙◌, ap, subst, inl, inr}
 use Rattle.std.specs.Prelude.{if◌then◌else◌, nat_lt}
 use Rattle.std.specs.List.{filter, flat_map}
 use Rattle.std.proofs.Math.Nat.{mul-le-mul_left}
 use Rattle.std.proofs.Math.Seq.{take-add}
 use Rattle.std.proofs.lemmas.Bool.{cases_Bool, true≢false, false_from_ne_true, lt-ltb, cases_lt}
 use Rattle.std.proofs.lemmas.Grind.{div_ceil_times}
-use Rattle.std.specs.Int.{div_ceil}
 use Rattle.geo_base.specs.Corners.{Corners}
 use Rattle.tree_shape.specs.declared.levels.Shape.{Shape}
-use Rattle.tree_shape.specs.Shape.{level_size, span, numbers, children_at, IsRoot}
+use Rattle.tree_shape.specs.Shape.{level_size, span, numbers, IsRoot}
 use Rattle.tree_shape.specs.Laws.Covers.{span-next, size_covers, level_size-suc}
 use Rattle.tree_shape.specs.Laws.Numbers.{children_at-numbers, length-numbers}
 use Rattle.tree_shape.specs.Laws.Writing.{take_of_length-le}

@@ -1,10 +1,10 @@
 -- What a page of a shown tree tells a search.
-use Rattle.std.proofs.Common.{◌≡◌, ℕ, zero, suc, ◌+◌, ◌-◌, ◌*◌, ◌^◌, ◌<◌, ◌≤◌, min, max, Bool, List, [], ◌∷◌, ◌++◌, take, drop, map, length, get_or, All, Option, Some, arith, refl, sym, ◌∙◌, ap, subst, lit≤}
+use Rattle.std.proofs.Common.{◌≡◌, ℕ, zero, suc, ◌+◌, ◌-◌, ◌*◌, ◌^◌, ◌<◌, ◌≤◌, min, Bool, List, [], ◌∷◌, ◌++◌, drop, map, length, All, Option, Some, arith, refl, sym, ◌∙◌, ap, subst, lit≤}
 use Rattle.std.specs.Prelude.{slice_index_or}
 use Rattle.std.specs.Int.{to_be_bytes, from_be_bytes, w16, w32, div_ceil}
 use Rattle.std.specs.List.{filter}
 use Rattle.std.proofs.Math.Nat.{mul-le-mul_left}
-use Rattle.std.proofs.lemmas.List.{get_or-map, length-map, drop_at}
+use Rattle.std.proofs.lemmas.List.{get_or-map, length-map}
 use Rattle.std.proofs.lemmas.List.Elements.{All-take, All-drop}
 use Rattle.std.proofs.lemmas.Grind.{div_ceil_times}
 use Rattle.std.proofs.lemmas.Nat.{from_be_bytes-to_be_bytes_2, from_be_bytes-to_be_bytes_4, from_be_bytes-to_be_bytes_8}
@@ -14,17 +14,16 @@ use Rattle.page_codec.specs.declared.kinds.TheConstants.{RTREE_INNER}
 use Rattle.page_codec.specs.Page.{row_count, rows_on, ShowsRows}
 use Rattle.geo_base.specs.Corners.{Corners}
 use Rattle.tree_shape.specs.declared.levels.Shape.{Shape}
-use Rattle.tree_shape.specs.Shape.{level_size, level_start, span, numbers, children_at, IsPlace}
+use Rattle.tree_shape.specs.Shape.{level_size, level_start, span, numbers, IsPlace}
 use Rattle.tree_shape.specs.Laws.Covers.{level_size-suc, one_le-level_size}
 use Rattle.tree_shape.specs.Laws.Numbers.{children_at-numbers, length-numbers, get_or-numbers}
-use Rattle.tree_shape.specs.Laws.Places.{number_fits, place_below}
 use Rattle.tree_shape.specs.Laws.Writing.{length-rows_on}
 use Rattle.rtree_image.specs.declared.rows.RtRow.{RtRow}
 use Rattle.rtree_image.specs.declared.bounds.Bounds.{Bounds}
 use Rattle.rtree_image.specs.Rows.{row_bytes, row_of, IsStored}
 use Rattle.rtree_image.specs.Bounds.{bounding, bounds_bytes, bounds_in, meets}
 use Rattle.rtree_image.specs.Image.{tree_of, rows_below, child_row, level_rows, level_kind, IsShown, page_number}
-use Rattle.rtree_image.specs.Visits.{is_inside, rows_inside, is_met}
+use Rattle.rtree_image.specs.Visits.{is_met}
 use Rattle.rtree_image.specs.Damage.{IsInnerPage, IsTreePage, IsDamaged}
 use Rattle.rtree_image.specs.Steps.{children_met}
 

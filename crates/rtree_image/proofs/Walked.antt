@@ -1,12 +1,11 @@
 -- The pages that a search asked for, page by page and level by level.
-use Rattle.std.proofs.Common.{◌≡◌, ℕ, suc, ◌+◌, ◌<◌, ◌≤◌, Bool, true, List, [], ◌∷◌, ◌++◌, take, drop, map, length, get_or, All, arith, refl, sym, ◌∙◌, ap, subst, append_assoc, append-nil}
+use Rattle.std.proofs.Common.{◌≡◌, ℕ, ◌+◌, ◌<◌, ◌≤◌, Bool, List, [], ◌∷◌, ◌++◌, take, drop, map, length, get_or, All, refl, sym, ◌∙◌, ap, subst, append-nil}
 use Rattle.std.specs.Prelude.{Result, Ok, Err, IsTrue}
 use Rattle.std.proofs.lemmas.List.{take_more, map-append, take-append-drop}
 use Rattle.std.proofs.lemmas.List.Elements.{All-append}
-use Rattle.std.proofs.Math.Numerals.{add-one}
 use Rattle.page_codec.specs.declared.faults.PageFault.{PageFault}
 use Rattle.page_codec.specs.declared.faults.PageFault.TheVariants.{Failed, Damaged, OutOfMemory}
-use Rattle.tree_shape.specs.Asked.{given, reads_of, GoesBy, Went, EndsWith}
+use Rattle.tree_shape.specs.Asked.{given, GoesBy, Went}
 use Rattle.tree_shape.specs.Laws.Trail.{went-then, given-append}
 use Rattle.tree_shape.specs.Laws.Writing.{take_of_length-le}
 use Rattle.rtree_image.specs.Steps.{WentAmong}

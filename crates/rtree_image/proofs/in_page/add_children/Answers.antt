@@ -1,4 +1,4 @@
-use Rattle.std.proofs.Common.{◌≡◌, ◌<◌, ◌+◌, ◌-◌, ◌*◌, ◌++◌, [], ◌∙◌, arith, ap, sym, subst, refl, append-nil}
+use Rattle.std.proofs.Common.{◌≡◌, ◌+◌, ◌-◌, ◌*◌, [], ◌∙◌, arith, ap, sym, append-nil}
 use Rattle.std.specs.Prelude.{slice_index_or}
 use Rattle.page_codec.specs.Page.{rows_on, row_count}
 use Rattle.tree_shape.specs.Shape.{numbers, level_start}

@@ -1,4 +1,4 @@
-use Rattle.std.proofs.Common.{◌≡◌, ◌<◌, ◌++◌, ◌∙◌, arith, ap, map, length, refl}
+use Rattle.std.proofs.Common.{◌<◌, ◌++◌, ◌∙◌, arith, ap, map, length}
 use Rattle.std.specs.List.{filter}
 use Rattle.page_codec.specs.Page.{rows_on}
 use Rattle.tree_shape.specs.Laws.Writing.{length-rows_on, take_of_length-le}

@@ -1,11 +1,11 @@
-use Rattle.std.proofs.Common.{arith, lit≤, ◌≡◌, suc, ◌+◌, ◌-◌, ◌*◌, ◌<◌, ◌≤◌, ◌++◌, ◌∷◌, [], ◌∙◌, sym, ap, subst, length, map, min, refl}
+use Rattle.std.proofs.Common.{arith, lit≤, ◌≡◌, suc, ◌+◌, ◌-◌, ◌*◌, ◌≤◌, ◌++◌, ◌∷◌, [], ◌∙◌, sym, ap, subst, length, map, min, refl}
 use Rattle.std.proofs.lemmas.List.{length-map}
 use Rattle.std.proofs.Math.Numerals.{add-one}
 use Rattle.std.specs.Int.{to_be_bytes, w32}
-use Rattle.page_codec.specs.Page.{row_width, most_rows, kind_of, row_count, page_of, AllOfWidth, ShowsRows, IsKind}
+use Rattle.page_codec.specs.Page.{row_width, kind_of, page_of, AllOfWidth, ShowsRows, IsKind}
 use Rattle.page_codec.specs.Laws.{ShowsRows-page_of}
 use Rattle.page_codec.specs.declared.kinds.TheConstants.{RTREE_INNER}
-use Rattle.tree_shape.specs.Shape.{level_size, level_start, span, numbers, children_at}
+use Rattle.tree_shape.specs.Shape.{level_size, numbers, children_at}
 use Rattle.tree_shape.specs.Laws.Numbers.{length-numbers, children_at-numbers}
 use Rattle.tree_shape.specs.Laws.Places.{pages_fit, page_begins, first_row}
 use Rattle.tree_shape.specs.Laws.Writing.{kind_of-page_of, wide-snoc, one_more_number, room}

@@ -1,4 +1,4 @@
-use Rattle.std.proofs.Common.{rules, ◌≡◌, ℕ, suc, ◌-◌, ◌<◌, ◌≤◌, [], ◌∷◌, ◌++◌, map, arith, refl, sym, ◌∙◌, ap, subst, append_assoc, lit≤, List, false}
+use Rattle.std.proofs.Common.{rules, ◌≡◌, ℕ, suc, ◌-◌, ◌<◌, [], ◌∷◌, ◌++◌, map, arith, refl, sym, ◌∙◌, ap, subst, append_assoc, lit≤, List, false}
 use Rattle.std.specs.Prelude.{Ok, Err, nat_lt}
 use Rattle.std.specs.List.{flat_map}
 use Rattle.std.proofs.lemmas.Bool.{false_from_ne_true, ltb-true}
@@ -11,7 +11,7 @@ use Rattle.rtree_image.specs.declared.rows.RtRow.{RtRow}
 use Rattle.rtree_image.specs.Image.{tree_of, rows_below, IsShown, page_number}
 use Rattle.rtree_image.specs.Visits.{rows_inside, visited_at, visited_from, visited_pages}
 use Rattle.rtree_image.specs.Steps.{AscendWithin, children_met}
-use Rattle.rtree_image.proofs.Ascending.{Once, Above, once-none, above-none, pairs-once, within-one}
+use Rattle.rtree_image.proofs.Ascending.{Above, once-none, above-none, pairs-once, within-one}
 use Rattle.rtree_image.proofs.Downward.{goes-short, goes-last, level-once, level-above, way-next, way-last, match-ok}
 use Rattle.rtree_image.proofs.Pruned.{next_places, found_rows}
 use Rattle.rtree_image.proofs.Walked.{Given, given-more, went-behind}

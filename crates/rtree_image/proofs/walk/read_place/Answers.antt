@@ -1,6 +1,4 @@
 use Rattle.std.proofs.Common.{arith}
-use Rattle.rtree_image.proofs.Ascending.{pairs-once}
-use Rattle.rtree_image.proofs.Pruned.{found_rows}
 use Rattle.rtree_image.proofs.walk.read_place.Goals as goal
 
 pub overflow_cast-page : goal.overflow_cast-page

@@ -1,4 +1,4 @@
-use Rattle.std.proofs.Common.{◌≡◌, ℕ, suc, ◌+◌, ◌*◌, ◌^◌, ◌<◌, ◌++◌, arith, lit≤, sym, ◌∙◌, ap, subst}
+use Rattle.std.proofs.Common.{ℕ, suc, ◌*◌, ◌<◌, ◌++◌, arith, lit≤, ◌∙◌, ap}
 use Rattle.std.proofs.Math.Numerals.{add-one}
 use Rattle.tree_shape.specs.Laws.Places.{number_fits, place_below}
 use Rattle.tree_shape.specs.Laws.Trail.{went-failed}

@@ -1,4 +1,4 @@
-use Rattle.std.proofs.Common.{◌≡◌, ◌++◌, ◌∙◌, ap}
+use Rattle.std.proofs.Common.{◌++◌, ◌∙◌, ap}
 use Rattle.page_codec.specs.declared.kinds.TheConstants.{RTREE_LEAF}
 use Rattle.tree_shape.specs.Laws.Trail.{went-failed}
 use Rattle.rtree_image.specs.Image.{tree_of}

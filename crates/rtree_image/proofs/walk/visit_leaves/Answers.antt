@@ -1,4 +1,4 @@
-use Rattle.std.proofs.Common.{◌≡◌, ℕ, suc, ◌+◌, ◌<◌, ◌≤◌, [], ◌∷◌, ◌++◌, List, take, drop, map, length, get_or, arith, refl, sym, ◌∙◌, ap, subst, append_assoc}
+use Rattle.std.proofs.Common.{suc, ◌++◌, take, get_or, arith, sym, ◌∙◌, ap, subst, append_assoc}
 use Rattle.std.specs.List.{flat_map}
 use Rattle.tree_shape.specs.Laws.Writing.{take_of_length-le}
 use Rattle.rtree_image.specs.Image.{tree_of, rows_below, IsShown, page_number}

@@ -1,14 +1,10 @@
-use Rattle.std.proofs.Common.{◌≡◌, ℕ, suc, ◌+◌, ◌*◌, ◌<◌, ◌≤◌, [], ◌∷◌, ◌++◌, List, take, drop, map, min, length, get_or, All, arith, refl, sym, ◌∙◌, ap, subst, append-nil}
-use Rattle.std.specs.List.{flat_map}
-use Rattle.std.proofs.lemmas.List.{take_more}
-use Rattle.std.proofs.lemmas.List.Concat.{flat_map-append}
-use Rattle.tree_shape.specs.Shape.{level_size, IsPlace}
-use Rattle.tree_shape.specs.Laws.Writing.{take_of_length-le}
+use Rattle.std.proofs.Common.{ℕ, suc, ◌*◌, ◌≤◌, ◌++◌, List, min, get_or, arith, refl, sym, ◌∙◌, ap, subst}
+use Rattle.tree_shape.specs.Shape.{level_size}
 use Rattle.rtree_image.specs.Image.{tree_of, IsShown, page_number, AreLent}
 use Rattle.rtree_image.specs.Steps.{AscendWithin, children_met}
-use Rattle.rtree_image.proofs.Ascending.{within-next, within-le, within-none, within-append, within-lower, within-higher}
+use Rattle.rtree_image.proofs.Ascending.{within-next, within-le, within-none, within-append, within-higher}
 use Rattle.rtree_image.proofs.Picked.{flat-more}
-use Rattle.rtree_image.proofs.Walked.{Given, level-more, level-stops, level-all}
+use Rattle.rtree_image.proofs.Walked.{level-more, level-stops}
 use Rattle.rtree_image.proofs.walk.visit_level.Goals as goal
 
 pub loop-i-init : goal.loop-i-init
