@@ -22,9 +22,11 @@ module _ (number : ℕ → ℕ) (seen these places whole : List ℕ) where
       let left = goes.0 in
       let front = map number these in
       let back = map number left in
-      let split : map number places ≡ front ++ back = ap (map number) (sym goes.1) ∙ map-append number these left in
-      (back ++ rest, append_assoc seen front (back ++ rest)
-      ∙ (ap (λ ps. seen ++ ps) (sym (append_assoc front back rest) ∙ ap (λ ps. ps ++ rest) (sym split)) ∙ way))
+      let split : map number places ≡ front ++ back = ap (map number) (sym goes.1) ∙ map-append number these left in (
+        back ++ rest,
+        append_assoc seen front (back ++ rest)
+            ∙ (ap (λ ps. seen ++ ps) (sym (append_assoc front back rest) ∙ ap (λ ps. ps ++ rest) (sym split)) ∙ way),
+      )
 
   -- the last level
   pub goes-last : {X : Type 0} (result : Result X PageFault) → GoesBy result these places → seen ++ map number places ≡ whole

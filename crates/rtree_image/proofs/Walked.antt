@@ -67,7 +67,7 @@ module _ {S : Type 0} (asked : S → S → List (ℕ × Bool) → Type 0)
     level-stops first second third fault so_far now same there = (
       take (i + 1) places,
       subst (Went lent (asked first third) (Err fault)) (sym one_more_page)
-      (went-behind first second third (Err fault) (map number (take i places)) (number (get_or places i d) ∷ []) so_far now same there),
+          (went-behind first second third (Err fault) (map number (take i places)) (number (get_or places i d) ∷ []) so_far now same there),
       (drop (i + 1) places, take-append-drop (i + 1) places),
     )
 

@@ -28,5 +28,5 @@ returns-in-Err-Damaged-clause-told g c list shown page e =
     let s = tree_of c.args.tree.rows in
     let shows = shown_read c.args.tree.first c.args.tree.rows _ list shown c.read_place.new.buf (suc c.args.below) c.args.at c.requires.place (rw add-one at c.in-Ok.ensures.bytes) in
     let fits : (at : ℕ) → at < _ → _ = λ at inside. (
-      let n = number_fits s (lit≤ tt) (lit≤ tt) (omega arith) c.args.below at (place_below s c.args.below c.args.at at c.requires.place inside) in omega arith) in
+    let n = number_fits s (lit≤ tt) (lit≤ tt) (omega arith) c.args.below at (place_below s c.args.below c.args.at at c.requires.place inside) in omega arith) in
     c.in-Err-Damaged.ensures.bad c.in-Err-Damaged.field-0-is (inner_sound s (lit≤ tt) list shown.stored c.args.below c.args.at c.requires.place.inside c.read_place.new.buf shows fits)
