@@ -10,6 +10,8 @@ mod in_page;
 mod levels;
 mod load;
 mod rows;
+#[cfg(test)]
+mod tests;
 mod walk;
 
 pub use load::{load_page, pages_for};
