@@ -88,7 +88,7 @@ struct Memory {
 
 impl Pages for Memory {
     ghost use Rattle.std.specs.Prelude.{None, nat_lt, ◌^◌};
-    ghost use Rattle.tree_shape.specs.Laws.Sizes.{page_fits};
+    ghost use Rattle.btree_image.specs.TestRows.{page_fits};
 
     ghost lent = { λ pages page. nat_lt page (2 ^ 32) };
 
