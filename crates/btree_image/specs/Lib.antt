@@ -1,8 +1,6 @@
-pub mod Shape
 pub mod Rows
 pub mod Image
 pub mod Descent
 pub mod Damage
-pub mod Asked
 pub mod Steps
 pub mod TestRows
