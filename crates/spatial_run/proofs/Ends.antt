@@ -40,11 +40,10 @@ run-end s device now new opened acks bad_words alone opens opened_is reads end =
 run-end s device now new opened acks source_fault alone opens opened_is reads end = end
 run-end s device now new opened acks (bad_line n) alone opens opened_is reads end = end
 run-end s device now new opened acks too_long alone opens opened_is reads end = end
-run-end s device now new opened acks no_memory alone opens opened_is reads end =
-    (
-      subst (λ (d : DeviceState). OnlyOpened device d) (sym opened_is ∙ end.0) reads,
-      sym end.1 ∙ (opens.unknown empty).has.acks,
-    )
+run-end s device now new opened acks no_memory alone opens opened_is reads end = (
+  subst (λ (d : DeviceState). OnlyOpened device d) (sym opened_is ∙ end.0) reads,
+  sym end.1 ∙ (opens.unknown empty).has.acks,
+)
 run-end s device now new opened acks format_failed alone opens opened_is reads end = end
 run-end s device now new opened acks (formatted pages) alone opens opened_is reads end = end
 run-end s device now new opened acks (not_opened fault) alone opens opened_is reads end = absurd end
@@ -77,13 +76,12 @@ module _ (so sn : ℕ) (left : Option (List ℕ)) (old new : DeviceState) (acks 
   serial-ran s format_failed read end = absurd end
   serial-ran s (formatted pages) read end = absurd end
   serial-ran s (not_opened fault) read end = (tt, read.0, record { device = old; prepared = refl; not_opened = end.0; acks_are = end.1 })
-  serial-ran s (ran t r) read end =
-      (
-        tt,
-        read.0,
-        subst (λ (x : Phases Command). IsScript left (Ok x)) (sym end.0) read.1,
-        subst (λ (x : Phases Command). ScriptRan serial old new acks x r) (sym end.0) (record { device = old; prepared = refl; ran_on = end.1 }),
-      )
+  serial-ran s (ran t r) read end = (
+    tt,
+    read.0,
+    subst (λ (x : Phases Command). IsScript left (Ok x)) (sym end.0) read.1,
+    subst (λ (x : Phases Command). ScriptRan serial old new acks x r) (sym end.0) (record { device = old; prepared = refl; ran_on = end.1 }),
+  )
 
   -- a device could not be formatted
   stopped : (indexes : ℕ) (task : Task) → (task ≡ format indexes) ⊎ (task ≡ fresh indexes) → (e : Ending) → sn ≡ so → FormatStopped indexes old new acks e → IsCause (Some task) so sn left old new acks e
@@ -101,13 +99,12 @@ module _ (so sn : ℕ) (left : Option (List ℕ)) (old new : DeviceState) (acks 
   fresh-on indexes s device formatting format_failed read end = absurd end
   fresh-on indexes s device formatting (formatted pages) read end = absurd end
   fresh-on indexes s device formatting (not_opened fault) read end = (tt, read.0, record { device = device; prepared = formatting; not_opened = end.0; acks_are = end.1 })
-  fresh-on indexes s device formatting (ran t r) read end =
-      (
-        tt,
-        read.0,
-        subst (λ (x : Phases Command). IsScript left (Ok x)) (sym end.0) read.1,
-        subst (λ (x : Phases Command). ScriptRan (fresh indexes) old new acks x r) (sym end.0) (record { device = device; prepared = formatting; ran_on = end.1 }),
-      )
+  fresh-on indexes s device formatting (ran t r) read end = (
+    tt,
+    read.0,
+    subst (λ (x : Phases Command). IsScript left (Ok x)) (sym end.0) read.1,
+    subst (λ (x : Phases Command). ScriptRan (fresh indexes) old new acks x r) (sym end.0) (record { device = device; prepared = formatting; ran_on = end.1 }),
+  )
 
   pub fresh-ran : (indexes : ℕ) (s : Phases Command) (e : Ending) → IsReadEnd so sn left (Ok s) → IsFreshEnd indexes s old new acks e → IsCause (Some (fresh indexes)) so sn left old new acks e
   fresh-ran indexes s e read (inl went) = fresh-on indexes s went.device went.formatting e read went.end

@@ -57,7 +57,7 @@ made-next a b c commands i command d olds news o lt is more all one =
     let os : outcomes_of news ≡ outcomes_of olds ++ outcome_of o ∷ [] = ap outcomes_of more ∙ map-append outcome_of olds (o ∷ []) in
     subst (λ (xs : List Command). MadeAll a c xs (outcomes_of news)) (sym cs)
     (subst (λ (ys : List Outcome). MadeAll a c (commands_of (take i commands) ++ command_of command ∷ []) ys) (sym os)
-      (made-more a b c (commands_of (take i commands)) (outcomes_of olds) (command_of command) (outcome_of o) all one))
+    (made-more a b c (commands_of (take i commands)) (outcomes_of olds) (command_of command) (outcome_of o) all one))
 
 pub does-length : (cs : List Command) (os : List Outcome) (es : List Event) → DoesAll cs os es → length cs ≡ length os
 does-length [] [] [] all = refl
@@ -86,22 +86,22 @@ ran-on device new acks s r opened few alone opens ran =
       acks_are = ran.acks_are;
       fits = fits_alone s r alone ran.alone at_least.one_each at_least.rises;
       answered = λ before told calm.
-        let known : IsHistory true (at_opening (first before)) s.setup r.setup (last before) = known_history before told calm in
-        subst (λ h. IsAnswered (recovered (bytes_of before)) h) (sym (history_alone s r alone each at_least.rises)) (known.replied refl 0);
+          let known : IsHistory true (at_opening (first before)) s.setup r.setup (last before) = known_history before told calm in
+          subst (λ h. IsAnswered (recovered (bytes_of before)) h) (sym (history_alone s r alone each at_least.rises)) (known.replied refl 0);
       survives = λ before told calm after_it is.
-        let known : IsHistory true (at_opening (first before)) s.setup r.setup (last before) = known_history before told calm in
-        let stands : Stands true (first before) ran.ended es = known_stands before told calm in
-        let t : Tells (first before) ran.ended (last before) = stands.tells refl in
-        let now_is : t.now ≡ after_it = same_Some _ _ (sym t.told ∙ ap (λ (d : DeviceState). d.story) ran.device_is ∙ is) in
-        let from : clock_of t.opening ≡ opened.opened_at = t.begins.clock in
-        let acks_is : (last before).acks ≡ acks = sym stands.has.acks ∙ ran.acks_are in
-        let groups : attempted (last before).logged (last before).unfinished ≡ attempted (logged_groups s.setup r.setup) (failed_group None s.setup r.setup) =
-        λ j. attempted (known.logged j) (known.unfinished j) in
-        subst (λ (p : ℕ). EachMoment opened.opened_at after_it (Keeps p (recovered (bytes_of before)) (attempted (logged_groups s.setup r.setup) (failed_group None s.setup r.setup)) acks)) (ap (λ (d : DeviceState). d.pages) ran.device_is)
-        (subst (λ (u : Story). EachMoment opened.opened_at u (Keeps ran.ended.device.pages (recovered (bytes_of before)) (attempted (logged_groups s.setup r.setup) (failed_group None s.setup r.setup)) acks)) now_is
-        (subst (λ (n : ℕ). EachMoment n t.now (Keeps ran.ended.device.pages (recovered (bytes_of before)) (attempted (logged_groups s.setup r.setup) (failed_group None s.setup r.setup)) acks)) from
-        (subst (λ (a : List ℕ). EachMoment (clock_of t.opening) t.now (Keeps ran.ended.device.pages (recovered (bytes_of before)) (attempted (logged_groups s.setup r.setup) (failed_group None s.setup r.setup)) a)) acks_is
-        (subst (λ (g : List Group). EachMoment (clock_of t.opening) t.now (Keeps ran.ended.device.pages (recovered (bytes_of before)) g (last before).acks)) groups t.survives))));
+          let known : IsHistory true (at_opening (first before)) s.setup r.setup (last before) = known_history before told calm in
+          let stands : Stands true (first before) ran.ended es = known_stands before told calm in
+          let t : Tells (first before) ran.ended (last before) = stands.tells refl in
+          let now_is : t.now ≡ after_it = same_Some _ _ (sym t.told ∙ ap (λ (d : DeviceState). d.story) ran.device_is ∙ is) in
+          let from : clock_of t.opening ≡ opened.opened_at = t.begins.clock in
+          let acks_is : (last before).acks ≡ acks = sym stands.has.acks ∙ ran.acks_are in
+          let groups : attempted (last before).logged (last before).unfinished ≡ attempted (logged_groups s.setup r.setup) (failed_group None s.setup r.setup) =
+          λ j. attempted (known.logged j) (known.unfinished j) in
+          subst (λ (p : ℕ). EachMoment opened.opened_at after_it (Keeps p (recovered (bytes_of before)) (attempted (logged_groups s.setup r.setup) (failed_group None s.setup r.setup)) acks)) (ap (λ (d : DeviceState). d.pages) ran.device_is)
+          (subst (λ (u : Story). EachMoment opened.opened_at u (Keeps ran.ended.device.pages (recovered (bytes_of before)) (attempted (logged_groups s.setup r.setup) (failed_group None s.setup r.setup)) acks)) now_is
+          (subst (λ (n : ℕ). EachMoment n t.now (Keeps ran.ended.device.pages (recovered (bytes_of before)) (attempted (logged_groups s.setup r.setup) (failed_group None s.setup r.setup)) acks)) from
+          (subst (λ (a : List ℕ). EachMoment (clock_of t.opening) t.now (Keeps ran.ended.device.pages (recovered (bytes_of before)) (attempted (logged_groups s.setup r.setup) (failed_group None s.setup r.setup)) a)) acks_is
+          (subst (λ (g : List Group). EachMoment (clock_of t.opening) t.now (Keeps ran.ended.device.pages (recovered (bytes_of before)) g (last before).acks)) groups t.survives))));
     }
   where
     first : Story → Opening

@@ -95,10 +95,10 @@ status_by f sent = first_of ((6, f.damaged) ∷ (5, f.device) ∷ (7, f.full) �
 pub run_status_alone : (r : RunRecord) (sent : Result (Unit {0}) Failed) → IsSetupAlone r → run_status r sent ≡ status_by (refusals_in r.setup) sent
 run_status_alone r sent alone =
     λ j. first_of (
-      (6, any_alone is_damaged r alone j)
-      ∷ (5, any_alone is_device r alone j)
-      ∷ (7, any_alone is_full r alone j)
-      ∷ (9, any_alone is_no_index r alone j)
-      ∷ (4, is_err sent)
-      ∷ (8, any_alone is_memory r alone j)
-      ∷ [])
+    (6, any_alone is_damaged r alone j)
+    ∷ (5, any_alone is_device r alone j)
+    ∷ (7, any_alone is_full r alone j)
+    ∷ (9, any_alone is_no_index r alone j)
+    ∷ (4, is_err sent)
+    ∷ (8, any_alone is_memory r alone j)
+    ∷ [])

@@ -179,13 +179,13 @@ first_of ((status, holds) ∷ others) = if holds then status else first_of other
 abbrev pub run_status : RunRecord → Result (Unit {0}) Failed → ℕ
 run_status r sent =
     first_of (
-      (6, any_refused_for is_damaged r)
-      ∷ (5, any_refused_for is_device r)
-      ∷ (7, any_refused_for is_full r)
-      ∷ (9, any_refused_for is_no_index r)
-      ∷ (4, is_err sent)
-      ∷ (8, any_refused_for is_memory r)
-      ∷ [])
+    (6, any_refused_for is_damaged r)
+    ∷ (5, any_refused_for is_device r)
+    ∷ (7, any_refused_for is_full r)
+    ∷ (9, any_refused_for is_no_index r)
+    ∷ (4, is_err sent)
+    ∷ (8, any_refused_for is_memory r)
+    ∷ [])
 
 abbrev pub status_of : Ending → Result (Unit {0}) Failed → ℕ
 status_of bad_words sent = 1

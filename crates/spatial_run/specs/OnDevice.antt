@@ -45,7 +45,6 @@ pub record NotOpened (device new : DeviceState) (fault : OpenFault) : Type 0 whe
   pub refused : IsRefused device new fault
   pub reads : OnlyOpened device new
 
-
 -- A script ran on the store of a device. There is a list of events of the store, which are the commands of the script with
 -- what became of them; the store stood for none when it was opened, and stands for these in the end, whatever its device tells.
 -- Where the device told and all that an opening looks at was on the disk: each answer is the table's at its place, from the

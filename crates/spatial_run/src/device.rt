@@ -117,12 +117,7 @@ fn format<D: Device>(alloc: Global, indexes: IndexSet, device: D) -> Run<D>
 }
 
 // Makes the device an empty store, and runs the script on it.
-fn run_formatted<D: Device>(
-    alloc: Global,
-    indexes: IndexSet,
-    script: Script,
-    device: D,
-) -> Run<D>
+fn run_formatted<D: Device>(alloc: Global, indexes: IndexSet, script: Script, device: D) -> Run<D>
     requires pages { LOG_PAGES ≤ D.pages device }
     requires alone { IsSetupAlone (phases_of script) }
     ensures end { IsFreshEnd indexes (phases_of script) (device_of D.pages D.clock D.fault_count D.story device) (device_of D.pages D.clock D.fault_count D.story result.device) result.acks.items (ending_of result.ending) }

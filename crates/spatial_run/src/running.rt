@@ -11,7 +11,7 @@ ghost use Rattle.spatial_run.specs.Steps.{MadeOne, MadeAll};
 
 use crate::record::{Outcome, OutcomeList};
 use dev_model::Device;
-use geo_base::{Point, Note, Row};
+use geo_base::{Note, Point, Row};
 use script_lang::{Answer, Command, Why};
 use std::alloc::{AllocError, Global};
 use store_core::{RegionRows, Store};

@@ -73,10 +73,15 @@ pub fn run_serial<R: Source, K: Sink, D: Device>(
 ) -> Ended<D>
     requires pages { LOG_PAGES ≤ D.pages device }
     ensures headline { Ends (Some serial) (record {
-        source_old = R.fault_count script.old; source_new = R.fault_count script.new; left = R.left script.old;
-        sink_old = K.fault_count out.old; sink_new = K.fault_count out.new; before = K.taken out.old; after = K.taken out.new;
-        device_old = device_of D.pages D.clock D.fault_count D.story device;
-        device_new = device_of D.pages D.clock D.fault_count D.story result.device;
+      source_old = R.fault_count script.old;
+      source_new = R.fault_count script.new;
+      left = R.left script.old;
+      sink_old = K.fault_count out.old;
+      sink_new = K.fault_count out.new;
+      before = K.taken out.old;
+      after = K.taken out.new;
+      device_old = device_of D.pages D.clock D.fault_count D.story device;
+      device_new = device_of D.pages D.clock D.fault_count D.story result.device;
     }) result.status result.acks.items (record_of result.outcomes) }
 {
     let run = run_task(alloc, Some(Task::Serial), script, device);
@@ -103,10 +108,15 @@ pub fn run_top<R: Source, K: Sink, D: Device>(
     // moment leaves the table after the first of the writes, with every acknowledged one; and each ending and status has its
     // cause.
     ensures headline { Ends (task_of (map (λ w. w.now) words.now)) (record {
-        source_old = R.fault_count script.old; source_new = R.fault_count script.new; left = R.left script.old;
-        sink_old = K.fault_count out.old; sink_new = K.fault_count out.new; before = K.taken out.old; after = K.taken out.new;
-        device_old = device_of D.pages D.clock D.fault_count D.story device;
-        device_new = device_of D.pages D.clock D.fault_count D.story result.device;
+      source_old = R.fault_count script.old;
+      source_new = R.fault_count script.new;
+      left = R.left script.old;
+      sink_old = K.fault_count out.old;
+      sink_new = K.fault_count out.new;
+      before = K.taken out.old;
+      after = K.taken out.new;
+      device_old = device_of D.pages D.clock D.fault_count D.story device;
+      device_new = device_of D.pages D.clock D.fault_count D.story result.device;
     }) result.status result.acks.items (record_of result.outcomes) }
 {
     let run = run_task(alloc, task_of(words), script, device);
