@@ -4,3 +4,4 @@ pub mod Runs
 pub mod Crash
 pub mod Standing
 pub mod Laws
+pub mod Examples
