@@ -1,6 +1,6 @@
 -- Worked examples: a store that is opened with no row, and events of it. No public contract but those of the examples needs
 -- this file.
-use Rattle.std.specs.Prelude.{ℕ, ◌+◌, List, [], ◌∷◌, Option, Some, None, Result, Ok, Err, codes}
+use Rattle.std.specs.Prelude.{ℕ, ◌+◌, true, false, List, [], ◌∷◌, Option, Some, None, Ok, Err, codes}
 use Rattle.std.specs.FinMap.{empty}
 use Rattle.dev_model.specs.DeviceCalls.{made_at}
 use Rattle.dev_model.specs.declared.calls.DeviceCall.{DeviceCall}

@@ -24,7 +24,7 @@ pub fn events_follow_one_another()
     ensures then { (a b c : StoreState) (es fs : List Event) → Adds a b es → Adds b c fs → Adds a c (es ++ fs) }
     ensures crash { (o : Opening) (store : StoreState) (es : List Event) (s : Story) → Stands true o store es → store.device.story ≡ Some s →
         EachMoment o.clock s (Keeps store.device.pages o.table
-            (attempted (after_all (at_opening o) es).logged (after_all (at_opening o) es).unfinished) store.acks) }
+        (attempted (after_all (at_opening o) es).logged (after_all (at_opening o) es).unfinished) store.acks) }
 {}
 
 /// Worked runs: a row is put, asked for, taken out, and none is counted; and a put that fails and one that is refused for it.
