@@ -152,8 +152,7 @@ module _ (s : Story) (calm : IsCalmAt (IsLookedAt (bytes_of s)) s) where
       → During (with_call s (Read 0 1)) (close_superblock_if is_open) P
   closing_during false is P so = tt
   closing_during true is P so =
-      let was_open : bytes_of s 0 ≡ 165 = gate-open (bytes_of s 0) is in
-      (
+      let was_open : bytes_of s 0 ≡ 165 = gate-open (bytes_of s 0) is in (
         λ image during. so image (old_or_none was_open image (λ i behind settled. during i (inr behind) settled)),
         (λ image during. so image (old_or_none was_open image (λ i behind settled. during i tt (inr behind, settled) ∙ patched-outside 0 (0 ∷ []) (bytes_of s) i (inr behind))), tt),
       )

@@ -25,8 +25,8 @@ records-wide first [] are = tt
 records-wide first (body ∷ bodies) are = (
   record-wide (first + 0) body (are 0 (omega arith)),
   records-wide (first + 1) bodies (λ i lt.
-  let number : first + suc i ≡ first + 1 + i = omega arith in
-  subst (λ (n : ℕ). IsRecord n (get_or bodies i [])) number (are (suc i) (omega (arith, lt)))),
+      let number : first + suc i ≡ first + 1 + i = omega arith in
+      subst (λ (n : ℕ). IsRecord n (get_or bodies i [])) number (are (suc i) (omega (arith, lt)))),
 )
 
 pub all-or-none : (log : Log) (s : Story) (rs : List Record) → IsAtRest log s → IsLogOf log (segments_of (bytes_of s)) → 0 < length rs → log.records + length rs ≤ 2048

@@ -10,7 +10,9 @@ ghost use Rattle.wal_log.specs.Rules.{Opens, records_of};
 ghost use Rattle.wal_log.specs.State.{IsAtRest, IsCounted, IsLogOf, HasRecordsOr, HasSameRecords, OpensAs, IsBeforeOrAfter, IsTurning, newest, following, first_header, append_calls, close_calls, close_calls_if, start_calls, turn_calls};
 
 use crate::Record;
-use crate::places::{LOG_PAGES, MOST_RECORDS, OPEN, RECORD_BYTES, SEGMENT_BYTES, record_start, segment_start};
+use crate::places::{
+    LOG_PAGES, MOST_RECORDS, OPEN, RECORD_BYTES, SEGMENT_BYTES, record_start, segment_start,
+};
 use crate::spelling::{header_with_closed_gate, with_closed_gate};
 use dev_model::{Device, Failed, write_synced};
 

@@ -90,12 +90,12 @@ open_records-gated (body ∷ bodies) (suc places) at a less wide there =
     let all : length (165 ∷ body ++ gated bodies) ≡ 96 + length (gated bodies) = omega (arith, length-append body (gated bodies), wide.0) in
     let gate : a at ≡ 165 = ap a (sym here) ∙ there 0 (omega (arith, all)) in
     let first : part (at + 1) 95 a ≡ body = part-list (at + 1) 95 a body wide.0 (λ n lt.
-        let place : at + 1 + n ≡ at + suc n = omega arith in
-        ap a place ∙ there (suc n) (omega (arith, all, lt)) ∙ get_or_append_left body (gated bodies) 0 n (omega (arith, wide.0, lt))) in
+    let place : at + 1 + n ≡ at + suc n = omega arith in
+    ap a place ∙ there (suc n) (omega (arith, all, lt)) ∙ get_or_append_left body (gated bodies) 0 n (omega (arith, wide.0, lt))) in
     let rest : open_records places (at + 96) a ≡ bodies = open_records-gated bodies places (at + 96) a (omega (arith, less)) wide.1 (λ n lt.
-        let place : at + 96 + n ≡ at + suc (95 + n) = omega arith in
-        let behind : 95 + n - 95 ≡ n = omega arith in
-        ap a place ∙ there (suc (95 + n)) (omega (arith, all, lt)) ∙ get_or-append_right body (gated bodies) 95 (95 + n) 0 wide.0 (omega arith) ∙ ap (λ (m : ℕ). get_or (gated bodies) m 0) behind) in
+    let place : at + 96 + n ≡ at + suc (95 + n) = omega arith in
+    let behind : 95 + n - 95 ≡ n = omega arith in
+    ap a place ∙ there (suc (95 + n)) (omega (arith, all, lt)) ∙ get_or-append_right body (gated bodies) 95 (95 + n) 0 wide.0 (omega arith) ∙ ap (λ (m : ℕ). get_or (gated bodies) m 0) behind) in
     open_records-open places at a gate ∙ (λ j. first j ∷ rest j)
 
 -- behind the records there is a closed gate
