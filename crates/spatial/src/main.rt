@@ -1,9 +1,12 @@
-// The program: `spatial serial` reads a script from standard input and prints its answers to standard output.
+// The program: `spatial FILE PAGES WORDS...` does what the words ask for on a file of so many pages. A script comes from standard
+// input, and all that is printed goes to standard output.
 #![tactic(auto)]
 
-ghost use Rattle.std.specs.Prelude.{◌≡◌, ◌==◌, ◌&&◌, ◌||◌, if◌then◌else◌, is_err};
+ghost use Rattle.std.specs.Prelude.{◌≡◌, ◌==◌, ◌&&◌, ◌||◌, ◌≤◌, IfSome, if◌then◌else◌, is_err};
 
 use dev_model::{Failed, ReadSource, WriteSink};
+use file_device::FileDevice;
+use script_lang::read_number;
 use spatial_run::run_top;
 use std::alloc::Global;
 use std::io::{BufReader, BufWriter, ErrorKind};
@@ -12,6 +15,11 @@ use std::{env, io};
 
 // A system call reads or writes so many bytes at the most.
 const BUFFER: usize = 65_536;
+
+// How many pages a device may have.
+const LEAST_PAGES: u32 = 1024;
+
+const MOST_PAGES: u32 = 65_536;
 
 // The words behind the program's name.
 fn words_of(alloc: Global, rt: &HostRuntime) -> io::Result<Vec<String>> {
@@ -22,6 +30,14 @@ fn words_of(alloc: Global, rt: &HostRuntime) -> io::Result<Vec<String>> {
     Ok(words)
 }
 
+// Words that are no text are outside the language of words, as no words are.
+fn words_or_none(alloc: Global, rt: &HostRuntime) -> io::Result<Vec<String>> {
+    match words_of(alloc, rt) {
+        Err(e) if e.kind() == ErrorKind::InvalidData => Ok(Vec::new(alloc)),
+        other => other,
+    }
+}
+
 fn texts_of<'a>(alloc: Global, words: &'a [String]) -> io::Result<Vec<&'a str>> {
     let mut texts = Vec::new(alloc);
     for word in words {
@@ -30,7 +46,17 @@ fn texts_of<'a>(alloc: Global, words: &'a [String]) -> io::Result<Vec<&'a str>> 
     Ok(texts)
 }
 
-// A text that fails at the last flush is cut off: status 4 comes before 8, and behind 1, 3 and 2.
+// The pages that a word gives.
+fn pages_of(word: &str) -> Option<u32>
+    ensures { IfSome result (λ pages. LEAST_PAGES ≤ pages) }
+{
+    match read_number(word.as_bytes(), u64::from(MOST_PAGES)) {
+        Some(pages) if pages >= u64::from(LEAST_PAGES) => Some(pages as u32),
+        _ => None,
+    }
+}
+
+// A text that fails at the last flush is cut off: status 4 comes before 8, and behind all others.
 fn status_when_flushed(status: u8, flushed: Result<(), Failed>) -> u8
     ensures { result ≡ (if is_err flushed && (status == 0 || status == 8) then 4 else status) }
 {
@@ -40,34 +66,47 @@ fn status_when_flushed(status: u8, flushed: Result<(), Failed>) -> u8
     }
 }
 
-fn run(alloc: Global, rt: &HostRuntime, words: &[String]) -> io::Result<u8> {
-    let texts = texts_of(alloc, words)?;
+fn run(alloc: Global, rt: &HostRuntime, words: &[&str], device: FileDevice) -> io::Result<u8>
+    requires { LEAST_PAGES ≤ device.pages }
+{
     let mut script = ReadSource::new(BufReader::with_capacity(alloc, BUFFER, rt.stdin())?);
     let mut out = WriteSink::new(BufWriter::with_capacity(alloc, BUFFER, rt.stdout())?);
-    let status = run_top(alloc, texts.as_slice(), &mut script, &mut out);
-    Ok(status_when_flushed(status, out.flush()))
+    let ended = run_top(alloc, words, &mut script, &mut out, device);
+    Ok(status_when_flushed(ended.status, out.flush()))
 }
 
-// Words that are no text are outside the language of words, as no words are.
-fn words_or_none(alloc: Global, rt: &HostRuntime) -> io::Result<Vec<String>> {
-    match words_of(alloc, rt) {
-        Err(e) if e.kind() == ErrorKind::InvalidData => Ok(Vec::new(alloc)),
-        other => other,
+// Prints one line, and answers the status that it goes with.
+fn say(rt: &HostRuntime, line: &str, status: u8) -> u8 {
+    match rt.print(line) {
+        Ok(()) => status,
+        Err(_) if status == 8 => 4,
+        Err(_) => status,
     }
 }
 
+// The file is made or lengthened and locked before anything else is done.
 fn start(alloc: Global, rt: &HostRuntime) -> io::Result<u8> {
     let words = words_or_none(alloc, rt)?;
-    run(alloc, rt, words.as_slice())
+    let texts = texts_of(alloc, words.as_slice())?;
+    let [file, pages, task @ ..] = texts.as_slice() else {
+        return Ok(say(rt, "bad words\n", 1));
+    };
+    if task.is_empty() {
+        return Ok(say(rt, "bad words\n", 1));
+    }
+    let Some(pages) = pages_of(pages) else {
+        return Ok(say(rt, "bad words\n", 1));
+    };
+    match FileDevice::open(rt, file, pages) {
+        Ok(device) => run(alloc, rt, task, device),
+        Err(_) => Ok(say(rt, "device fault\n", 5)),
+    }
 }
 
 // What fails before the top call is want of memory.
 fn main(rt: HostRuntime) -> ExitCode {
     match start(rt.alloc(), &rt) {
         Ok(status) => ExitCode::from(status),
-        Err(_) => match rt.print("no memory\n") {
-            Ok(()) => ExitCode::from(8),
-            Err(_) => ExitCode::from(4),
-        },
+        Err(_) => ExitCode::from(say(&rt, "no memory\n", 8)),
     }
 }

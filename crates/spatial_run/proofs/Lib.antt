@@ -1,5 +1,5 @@
-pub mod Causes
-pub mod Entries
-pub mod History
 pub mod Plain
 pub mod Printed
+pub mod Refusing
+pub mod Ends
+pub mod Making

@@ -9,8 +9,10 @@ use Rattle.table_model.specs.Commands.{Command, Outcome, answered, refused}
 use Rattle.table_model.specs.Phases.{Phases}
 use Rattle.table_model.specs.Record.{RunRecord, HistoryAnswer, FitsScript, lane_answers, lanes_answers, all_answers, in_order, inserted, history, seqs, Rises, history_text, refusals_text, lanes_refusals_text, record_text, OneEach, OneEachLane, AllApart}
 use Rattle.spatial_run.specs.declared.record.Outcome as rust
-use Rattle.spatial_run.specs.Endings.{is_refused, any_refused, status_of, ran}
-use Rattle.spatial_run.specs.Memory.{OnlyMemory, OnlyMemoryInLanes, RefusesForMemory}
+use Rattle.spatial_run.specs.Endings.{is_refused_for, any_refused_for, run_status, first_of, is_damaged, is_device, is_full, is_no_index, is_memory}
+use Rattle.spatial_run.specs.Refused.{refusals_in}
+use Rattle.table_model.specs.declared.Why.{Why}
+use Rattle.spatial_run.specs.declared.outcomes.Refusals.{Refusals}
 use Rattle.spatial_run.specs.Views.{outcome_of, outcomes_of}
 use Rattle.spatial_run.specs.Steps.{IsSetupAlone, answers_text, answered_part}
 
@@ -77,32 +79,26 @@ fits_alone s r alone alone' one_each rises = record {
   after_last = λ i d h j e k. let none : j < 0 = subst (λ os. j < length (seqs os)) alone'.1 k in absurd (omega (arith, none));
 }
 
-pub refuses_alone : (s : Phases Command) (r : RunRecord) → IsSetupAlone s → OnlyMemory s.setup r.setup → RefusesForMemory s r
-refuses_alone s r alone only_memory = record {
-  setup = only_memory;
-  lanes = subst (λ l. OnlyMemoryInLanes l r.lanes) (sym alone.0) tt;
-  after = subst (λ l. OnlyMemory l r.after) (sym alone.1) tt;
-}
-
-any_mapped : (os : List rust.Outcome) → list_any is_refused (outcomes_of os) ≡ list_any (λ o. is_refused (outcome_of o)) os
-any_mapped [] = refl
-any_mapped (o ∷ os) = ap (λ t. is_refused (outcome_of o) || t) (any_mapped os)
-
 or_false : (a : Bool) → (a || false || false) ≡ a
 or_false true = refl
 or_false false = refl
 
-pub any_refused_alone : (r : RunRecord) (os : List rust.Outcome) → IsSetupAlone r → r.setup ≡ outcomes_of os → any_refused r ≡ list_any (λ o. is_refused (outcome_of o)) os
-any_refused_alone r os alone is =
-    (λ i. list_any is_refused r.setup || list_any (λ l. list_any is_refused l) (alone.0 i) || list_any is_refused (alone.1 i))
-    ∙ or_false (list_any is_refused r.setup)
-    ∙ ap (list_any is_refused) is
-    ∙ any_mapped os
+any_alone : (p : Why → Bool) (r : RunRecord) → IsSetupAlone r → any_refused_for p r ≡ list_any (is_refused_for p) r.setup
+any_alone p r alone =
+    (λ i. list_any (is_refused_for p) r.setup || list_any (λ l. list_any (is_refused_for p) l) (alone.0 i) || list_any (is_refused_for p) (alone.1 i))
+    ∙ or_false (list_any (is_refused_for p) r.setup)
 
-pub status_refused : (s : Phases Command) (r : RunRecord) (sent : Result (Unit {0}) Failed) → is_err sent ≡ false → any_refused r ≡ true → status_of (ran s r) sent ≡ 8
-status_refused s r (Ok x) whole any = rw any
-status_refused s r (Err f) whole any = cc
+-- the status of a run, by the causes for which commands of its setup were refused
+abbrev pub status_by : Refusals → Result (Unit {0}) Failed → ℕ
+status_by f sent = first_of ((6, f.damaged) ∷ (5, f.device) ∷ (7, f.full) ∷ (9, f.no_index) ∷ (4, is_err sent) ∷ (8, f.memory) ∷ [])
 
-pub status_unrefused : (s : Phases Command) (r : RunRecord) (sent : Result (Unit {0}) Failed) → is_err sent ≡ false → any_refused r ≡ false → status_of (ran s r) sent ≡ 0
-status_unrefused s r (Ok x) whole any = rw any
-status_unrefused s r (Err f) whole any = cc
+pub run_status_alone : (r : RunRecord) (sent : Result (Unit {0}) Failed) → IsSetupAlone r → run_status r sent ≡ status_by (refusals_in r.setup) sent
+run_status_alone r sent alone =
+    λ j. first_of (
+    (6, any_alone is_damaged r alone j)
+    ∷ (5, any_alone is_device r alone j)
+    ∷ (7, any_alone is_full r alone j)
+    ∷ (9, any_alone is_no_index r alone j)
+    ∷ (4, is_err sent)
+    ∷ (8, any_alone is_memory r alone j)
+    ∷ [])

@@ -1,18 +1,22 @@
 -- How a call of the program ends: what it prints, with which status, and for which cause.
-use Rattle.std.specs.Prelude.{◌≡◌, ℕ, Bool, true, false, ◌||◌, if◌then◌else◌, List, [], ◌∷◌, ◌++◌, codes, decimal, Option, IfSome, Result, Ok, Err, IsErr, is_err}
+use Rattle.std.specs.Prelude.{◌≡◌, ◌⊎◌, ℕ, Bool, true, false, ◌||◌, if◌then◌else◌, List, [], ◌∷◌, ◌++◌, codes, decimal, Option, Some, None, IfSome, Result, Ok, Err, IsErr, is_err}
 use Rattle.std.specs.List.{list_any}
-use Rattle.std.specs.Str.{bytes_eq}
-use Rattle.std.specs.FinMap.{empty}
 use Rattle.dev_model.specs.declared.streams.Failed.{Failed}
 use Rattle.dev_model.specs.Counts.{Rose, Counts}
 use Rattle.dev_model.specs.Streams.{Says}
 use Rattle.table_model.specs.Commands.{Command, Outcome, answered, refused}
+use Rattle.table_model.specs.declared.Why.{Why}
+use Rattle.table_model.specs.declared.Why.TheVariants as why
 use Rattle.table_model.specs.Phases.{Phases}
-use Rattle.table_model.specs.Record.{RunRecord, FitsScript, IsAnswered, history, record_text}
+use Rattle.table_model.specs.Record.{RunRecord, record_text}
 use Rattle.script_lang.specs.declared.limits.TheConstants.{MOST_BYTES, MOST_COMMANDS}
 use Rattle.script_lang.specs.Scripts as script
 use Rattle.script_lang.specs.Scripts.{Wrong, script_of}
-use Rattle.spatial_run.specs.Memory.{RefusesForMemory}
+use Rattle.store_machine.specs.Standing.{DeviceState}
+use Rattle.store_core.specs.declared.opening.OpenFault.{OpenFault}
+use Rattle.store_core.specs.declared.opening.OpenFault.TheVariants as opening
+use Rattle.spatial_run.specs.Tasks.{Task, format, serial, fresh}
+use Rattle.spatial_run.specs.OnDevice.{Formatting, Prepared, OnlyOpened, NotOpened, RanOn}
 
 pub data Ending : Type 0 where
   bad_words : Ending
@@ -20,7 +24,17 @@ pub data Ending : Type 0 where
   bad_line : ℕ → Ending
   too_long : Ending
   no_memory : Ending
+  format_failed : Ending
+  formatted : (pages : ℕ) → Ending
+  not_opened : OpenFault → Ending
   ran : Phases Command → RunRecord → Ending
+
+abbrev pub fault_text : OpenFault → List ℕ
+fault_text opening.NotFormatted = codes "bad image: not formatted\n"
+fault_text (opening.BadSlot n) = codes "bad image: slot " ++ decimal n ++ codes "\n"
+fault_text (opening.BadLog k) = codes "bad image: segment " ++ decimal k ++ codes "\n"
+fault_text opening.Fault = codes "device fault\n"
+fault_text opening.OutOfMemory = codes "no memory\n"
 
 abbrev pub ending_text : Ending → List ℕ
 ending_text bad_words = codes "bad words\n"
@@ -28,13 +42,17 @@ ending_text source_fault = codes "source fault\n"
 ending_text (bad_line n) = codes "line " ++ decimal n ++ codes ": bad\n"
 ending_text too_long = codes "too long\n"
 ending_text no_memory = codes "no memory\n"
+ending_text format_failed = codes "device fault\n"
+ending_text (formatted pages) = codes "formatted " ++ decimal pages ++ codes "\n"
+ending_text (not_opened fault) = fault_text fault
 ending_text (ran s r) = record_text s r
 
--- the one command
-abbrev pub is_serial : List (List ℕ) → Bool
-is_serial [] = false
-is_serial (word ∷ []) = bytes_eq word (codes "serial")
-is_serial (word ∷ other ∷ words) = false
+-- the task is to run a script
+abbrev pub RunsScript : Option Task → Type 0
+RunsScript None = ⊥
+RunsScript (Some (format indexes)) = ⊥
+RunsScript (Some serial) = Unit {0}
+RunsScript (Some (fresh indexes)) = Unit {0}
 
 -- of a source that tells its bytes, what the script of them is
 abbrev pub IsScript : Option (List ℕ) → Result (Phases Command) Wrong → Type 0
@@ -43,74 +61,178 @@ IsScript left read = IfSome left (λ bytes. script_of MOST_BYTES MOST_COMMANDS b
 abbrev pub HasBadScript : Option (List ℕ) → Type 0
 HasBadScript left = IfSome left (λ bytes. IsErr (script_of MOST_BYTES MOST_COMMANDS bytes))
 
--- Why a call ends so: the words, the source's count of faults before and after, and the bytes that it told. A run's
--- record fits the script, each of its answers is the table's at its place, from the empty table on, and a command is
--- refused for want of memory alone.
-abbrev pub IsCause : List (List ℕ) → ℕ → ℕ → Option (List ℕ) → Ending → Type 0
-IsCause words old new left bad_words = (is_serial words ≡ false) × (new ≡ old)
-IsCause words old new left source_fault = (is_serial words ≡ true) × Rose old new
-IsCause words old new left (bad_line n) = (is_serial words ≡ true) × (new ≡ old) × IsScript left (Err (script.bad_line n))
-IsCause words old new left too_long = (is_serial words ≡ true) × (new ≡ old) × IsScript left (Err script.too_long)
-IsCause words old new left no_memory = (is_serial words ≡ true) × (new ≡ old)
-IsCause words old new left (ran s r) =
-    (is_serial words ≡ true) × (new ≡ old) × IsScript left (Ok s)
-    × FitsScript s r × IsAnswered empty (history s r) × RefusesForMemory s r
+-- nothing was done on the device, and nothing was acknowledged
+pub record IsUntouched (old new : DeviceState) (acks : List ℕ) : Type 0 where
+  pub device : new ≡ old
+  pub acks_are : acks ≡ []
 
-abbrev pub is_refused : Outcome → Bool
-is_refused (answered seq reply) = false
-is_refused (refused why) = true
+-- memory was refused before the first command: while the script was read, while the store was opened, or for the room of the
+-- record
+pub record WantsMemory (task : Task) (old new : DeviceState) (acks : List ℕ) : Type 0 where
+  pub device : DeviceState
+  pub prepared : (device ≡ old) ⊎ Prepared task old device
+  pub reads : OnlyOpened device new
+  pub acks_are : acks ≡ []
 
-abbrev pub any_refused : RunRecord → Bool
-any_refused r = list_any is_refused r.setup || list_any (λ os. list_any is_refused os) r.lanes || list_any is_refused r.after
+-- a device could not be formatted
+pub record FormatFailed (task : Task) (old new : DeviceState) (acks : List ℕ) : Type 0 where
+  pub indexes : ℕ
+  pub task_is : (task ≡ format indexes) ⊎ (task ≡ fresh indexes)
+  pub failed : Failed
+  pub formatting : Formatting indexes old new (Err failed)
+  pub acks_are : acks ≡ []
 
-abbrev pub has_bad_words : Ending → Bool
-has_bad_words bad_words = true
-has_bad_words source_fault = false
-has_bad_words (bad_line n) = false
-has_bad_words too_long = false
-has_bad_words no_memory = false
-has_bad_words (ran s r) = false
+-- a store could not be opened
+pub record OpeningRefused (task : Task) (old new : DeviceState) (acks : List ℕ) (fault : OpenFault) : Type 0 where
+  pub device : DeviceState
+  pub prepared : Prepared task old device
+  pub not_opened : NotOpened device new fault
+  pub acks_are : acks ≡ []
 
-abbrev pub has_source_fault : Ending → Bool
-has_source_fault bad_words = false
-has_source_fault source_fault = true
-has_source_fault (bad_line n) = false
-has_source_fault too_long = false
-has_source_fault no_memory = false
-has_source_fault (ran s r) = false
+-- a script ran
+pub record ScriptRan (task : Task) (old new : DeviceState) (acks : List ℕ) (s : Phases Command) (r : RunRecord) : Type 0 where
+  pub device : DeviceState
+  pub prepared : Prepared task old device
+  pub ran_on : RanOn device new acks s r
 
-abbrev pub has_bad_script : Ending → Bool
-has_bad_script bad_words = false
-has_bad_script source_fault = false
-has_bad_script (bad_line n) = true
-has_bad_script too_long = true
-has_bad_script no_memory = false
-has_bad_script (ran s r) = false
+-- the task does this
+abbrev pub OfTask : Option Task → (Task → Type 0) → Type 0
+OfTask None P = ⊥
+OfTask (Some task) P = P task
 
--- want of memory is the only refusal as long as there is no device
-abbrev pub wants_memory : Ending → Bool
-wants_memory bad_words = false
-wants_memory source_fault = false
-wants_memory (bad_line n) = false
-wants_memory too_long = false
-wants_memory no_memory = true
-wants_memory (ran s r) = any_refused r
+-- Why a call ends so: its task, the source's count of faults before and after, the bytes that the source told, the device
+-- before and after, and the acks.
+abbrev pub IsCause : Option Task → (source_old source_new : ℕ) → Option (List ℕ) → (old new : DeviceState) → (acks : List ℕ) → Ending → Type 0
+IsCause task so sn left old new acks bad_words = (task ≡ None) × (sn ≡ so) × IsUntouched old new acks
+IsCause task so sn left old new acks source_fault = RunsScript task × Rose so sn × IsUntouched old new acks
+IsCause task so sn left old new acks (bad_line n) = RunsScript task × (sn ≡ so) × IsScript left (Err (script.bad_line n)) × IsUntouched old new acks
+IsCause task so sn left old new acks too_long = RunsScript task × (sn ≡ so) × IsScript left (Err script.too_long) × IsUntouched old new acks
+IsCause task so sn left old new acks no_memory = RunsScript task × (sn ≡ so) × OfTask task (λ t. WantsMemory t old new acks)
+IsCause task so sn left old new acks format_failed = (sn ≡ so) × OfTask task (λ t. FormatFailed t old new acks)
+IsCause task so sn left old new acks (formatted pages) =
+    (sn ≡ so) × (pages ≡ new.pages) × (acks ≡ []) × ((indexes : ℕ) × (task ≡ Some (format indexes)) × Formatting indexes old new (Ok tt))
+IsCause task so sn left old new acks (not_opened fault) = RunsScript task × (sn ≡ so) × OfTask task (λ t. OpeningRefused t old new acks fault)
+IsCause task so sn left old new acks (ran s r) = RunsScript task × (sn ≡ so) × IsScript left (Ok s) × OfTask task (λ t. ScriptRan t old new acks s r)
+
+-- which refusal a command had
+abbrev pub is_refused_for : (Why → Bool) → Outcome → Bool
+is_refused_for p (answered seq reply) = false
+is_refused_for p (refused w) = p w
+
+abbrev pub any_refused_for : (Why → Bool) → RunRecord → Bool
+any_refused_for p r = list_any (is_refused_for p) r.setup || list_any (λ os. list_any (is_refused_for p) os) r.lanes || list_any (is_refused_for p) r.after
+
+abbrev pub is_damaged : Why → Bool
+is_damaged why.Damaged = true
+is_damaged why.Fault = false
+is_damaged why.Stopped = false
+is_damaged why.Full = false
+is_damaged why.NoIndex = false
+is_damaged why.Memory = false
+
+abbrev pub is_device : Why → Bool
+is_device why.Damaged = false
+is_device why.Fault = true
+is_device why.Stopped = true
+is_device why.Full = false
+is_device why.NoIndex = false
+is_device why.Memory = false
+
+abbrev pub is_full : Why → Bool
+is_full why.Damaged = false
+is_full why.Fault = false
+is_full why.Stopped = false
+is_full why.Full = true
+is_full why.NoIndex = false
+is_full why.Memory = false
+
+abbrev pub is_no_index : Why → Bool
+is_no_index why.Damaged = false
+is_no_index why.Fault = false
+is_no_index why.Stopped = false
+is_no_index why.Full = false
+is_no_index why.NoIndex = true
+is_no_index why.Memory = false
+
+abbrev pub is_memory : Why → Bool
+is_memory why.Damaged = false
+is_memory why.Fault = false
+is_memory why.Stopped = false
+is_memory why.Full = false
+is_memory why.NoIndex = false
+is_memory why.Memory = true
+
+-- the status of an opening that was refused: what is on the device, the device, or memory
+abbrev pub fault_status : OpenFault → Result (Unit {0}) Failed → ℕ
+fault_status opening.NotFormatted sent = 6
+fault_status (opening.BadSlot n) sent = 6
+fault_status (opening.BadLog k) sent = 6
+fault_status opening.Fault sent = 5
+fault_status opening.OutOfMemory sent = if is_err sent then 4 else 8
 
 -- the first status whose condition holds, else 0
 abbrev pub first_of : List (ℕ × Bool) → ℕ
 first_of [] = 0
 first_of ((status, holds) ∷ others) = if holds then status else first_of others
 
+-- the status of a run: a damaged page, the device, no room, no such index, the sink, memory
+abbrev pub run_status : RunRecord → Result (Unit {0}) Failed → ℕ
+run_status r sent =
+    first_of (
+    (6, any_refused_for is_damaged r)
+    ∷ (5, any_refused_for is_device r)
+    ∷ (7, any_refused_for is_full r)
+    ∷ (9, any_refused_for is_no_index r)
+    ∷ (4, is_err sent)
+    ∷ (8, any_refused_for is_memory r)
+    ∷ [])
+
 abbrev pub status_of : Ending → Result (Unit {0}) Failed → ℕ
-status_of e sent = first_of ((1, has_bad_words e) ∷ (3, has_source_fault e) ∷ (2, has_bad_script e) ∷ (4, is_err sent) ∷ (8, wants_memory e) ∷ [])
+status_of bad_words sent = 1
+status_of source_fault sent = 3
+status_of (bad_line n) sent = 2
+status_of too_long sent = 2
+status_of no_memory sent = if is_err sent then 4 else 8
+status_of format_failed sent = 5
+status_of (formatted pages) sent = if is_err sent then 4 else 0
+status_of (not_opened fault) sent = fault_status fault sent
+status_of (ran s r) sent = run_status r sent
+
+-- no command ran
+abbrev pub IsEmptyRecord : RunRecord → Type 0
+IsEmptyRecord r = (r.setup ≡ []) × (r.lanes ≡ []) × (r.after ≡ [])
+
+-- the record that is handed out: that of the run, or an empty one
+abbrev pub HandsOut : Ending → RunRecord → Type 0
+HandsOut bad_words r = IsEmptyRecord r
+HandsOut source_fault r = IsEmptyRecord r
+HandsOut (bad_line n) r = IsEmptyRecord r
+HandsOut too_long r = IsEmptyRecord r
+HandsOut no_memory r = IsEmptyRecord r
+HandsOut format_failed r = IsEmptyRecord r
+HandsOut (formatted pages) r = IsEmptyRecord r
+HandsOut (not_opened fault) r = IsEmptyRecord r
+HandsOut (ran s outcomes) r = r ≡ outcomes
+
+-- what a call is given and what it leaves of its source, its sink and its device
+pub record Edges : Type 0 where
+  pub source_old : ℕ
+  pub source_new : ℕ
+  pub left : Option (List ℕ)
+  pub sink_old : ℕ
+  pub sink_new : ℕ
+  pub before : Option (List ℕ)
+  pub after : Option (List ℕ)
+  pub device_old : DeviceState
+  pub device_new : DeviceState
 
 -- A call ends in one way: for its cause, with its text, or with a front of it where the sink's count of faults rose,
--- and with its status.
-pub record Ends (words : List (List ℕ)) (source_old source_new : ℕ) (left : Option (List ℕ))
-    (sink_old sink_new : ℕ) (before after : Option (List ℕ)) (status : ℕ) : Type 0 where
+-- with its status and its record.
+pub record Ends (task : Option Task) (edges : Edges) (status : ℕ) (acks : List ℕ) (r : RunRecord) : Type 0 where
   pub ending : Ending
   pub sent : Result (Unit {0}) Failed
-  pub cause : IsCause words source_old source_new left ending
-  pub counts : Counts sink_old sink_new sent
-  pub told : Says before after (ending_text ending) sent
+  pub cause : IsCause task edges.source_old edges.source_new edges.left edges.device_old edges.device_new acks ending
+  pub counts : Counts edges.sink_old edges.sink_new sent
+  pub told : Says edges.before edges.after (ending_text ending) sent
   pub is_status : status ≡ status_of ending sent
+  pub outcomes : HandsOut ending r

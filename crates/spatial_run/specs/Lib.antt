@@ -1,5 +1,7 @@
 pub mod Endings
-pub mod Entries
-pub mod Memory
+pub mod OnDevice
+pub mod Parts
+pub mod Refused
 pub mod Steps
+pub mod Tasks
 pub mod Views

@@ -1,20 +1,27 @@
 -- The private steps of a run: one lane's outcomes, what they print, and what a run has while all commands are the
 -- setup. No public contract needs this file.
-use Rattle.std.specs.Prelude.{◌≡◌, ℕ, ◌+◌, List, [], ◌∷◌, ◌++◌, length}
-use Rattle.std.specs.FinMap.{empty}
+use Rattle.std.specs.Prelude.{◌≡◌, ℕ, ◌+◌, ◌<◌, List, [], ◌∷◌, ◌++◌, length}
 use Rattle.table_model.specs.Commands.{Command, Outcome, answered, refused}
 use Rattle.table_model.specs.Phases.{Phases}
-use Rattle.table_model.specs.Record.{FitsScript, IsAnswered, OneEach, Rises, history, lane_answers, seqs}
+use Rattle.table_model.specs.Record.{Rises, seqs}
 use Rattle.table_model.specs.Text.{answer_text, refused_text}
-use Rattle.spatial_run.specs.Memory.{OnlyMemory, RefusesForMemory}
-use Rattle.spatial_run.specs.Endings.{Ending, bad_words, source_fault, bad_line, too_long, no_memory, ran}
+use Rattle.store_machine.specs.Commands.{IsCall, DoesAll}
+use Rattle.store_machine.specs.Standing.{StoreState, Adds, Makes}
+use Rattle.store_machine.specs.declared.events.Action.{Action}
+use Rattle.store_machine.specs.declared.events.Event.{Event}
+use Rattle.spatial_run.specs.Endings.{Ending, bad_words, source_fault, bad_line, too_long, no_memory, format_failed, formatted, not_opened, ran}
 
--- the commands of one lane were run one after another, from the empty table
-pub record Ran (commands : List Command) (outcomes : List Outcome) : Type 0 where
-  pub one_each : OneEach commands outcomes
-  pub rises : Rises (seqs outcomes)
-  pub answered : IsAnswered empty (lane_answers 0 commands outcomes)
-  pub only_memory : OnlyMemory commands outcomes
+-- a command made one event, and this became of it
+pub record MadeOne (old new : StoreState) (command : Command) (outcome : Outcome) : Type 0 where
+  pub action : Action
+  pub call : IsCall action command outcome
+  pub makes : Makes old new 0 action
+
+-- commands made one event each, and this became of them
+pub record MadeAll (old new : StoreState) (commands : List Command) (outcomes : List Outcome) : Type 0 where
+  pub events : List Event
+  pub adds : Adds old new events
+  pub does : DoesAll commands outcomes events
 
 -- what an outcome prints as an answer, the next place, and what it prints as a refusal
 abbrev pub answered_part : ℕ → Outcome → List ℕ
@@ -38,15 +45,6 @@ answers_text place (o ∷ os) = answered_part place o ++ answers_text (place_aft
 abbrev pub IsSetupAlone : {X : Type 0} → Phases X → Type 0
 IsSetupAlone s = (s.lanes ≡ []) × (s.after ≡ [])
 
--- a run of the script, or the room for its record was refused
-abbrev pub IsRunOf : Phases Command → Ending → Type 0
-IsRunOf s bad_words = ⊥
-IsRunOf s source_fault = ⊥
-IsRunOf s (bad_line n) = ⊥
-IsRunOf s too_long = ⊥
-IsRunOf s no_memory = Unit {0}
-IsRunOf s (ran t r) = (t ≡ s) × FitsScript s r × IsAnswered empty (history s r) × RefusesForMemory s r
-
 -- an ending whose text is that of the setup's outcomes alone
 abbrev pub IsPlain : Ending → Type 0
 IsPlain bad_words = Unit {0}
@@ -54,4 +52,7 @@ IsPlain source_fault = Unit {0}
 IsPlain (bad_line n) = Unit {0}
 IsPlain too_long = Unit {0}
 IsPlain no_memory = Unit {0}
+IsPlain format_failed = Unit {0}
+IsPlain (formatted pages) = Unit {0}
+IsPlain (not_opened fault) = Unit {0}
 IsPlain (ran s r) = IsSetupAlone s × IsSetupAlone r × (length s.setup ≡ length r.setup) × Rises (seqs r.setup)

@@ -1,15 +1,13 @@
-// A run of a script: its commands are answered from the table, and the record of the run is printed.
+// A run of a script on a store: its commands are answered, and the record of the run is printed.
 #![tactic(auto)]
 
-mod command;
+mod device;
 mod ending;
 mod outcomes;
 mod record;
 mod running;
-mod store;
+mod task;
 mod top;
 
-pub use top::run_top;
-
-#[cfg(test)]
-mod tests;
+pub use record::{LaneOutcomes, Outcome, OutcomeList, RunRecord};
+pub use top::{Ended, run_serial, run_top};

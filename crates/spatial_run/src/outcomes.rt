@@ -1,16 +1,15 @@
 // The outcomes of one lane, printed: first the answers by place, then the refusals.
 ghost use Rattle.std.specs.Prelude.{◌≡◌, ◌+◌, ◌-◌, ◌^◌, ◌<◌, ◌≤◌, ◌++◌};
-ghost use Rattle.std.specs.List.{list_any};
 ghost use Rattle.dev_model.specs.Counts.{Counts};
 ghost use Rattle.dev_model.specs.Streams.{Says};
 ghost use Rattle.table_model.specs.Record.{refusals_text};
-ghost use Rattle.spatial_run.specs.Endings.{is_refused};
+ghost use Rattle.spatial_run.specs.Refused.{with_outcome, refusals_in};
 ghost use Rattle.spatial_run.specs.Views.{outcome_of, outcomes_of};
 ghost use Rattle.spatial_run.specs.Steps.{answers_text, answered_part, place_after, refused_part};
 
 use crate::record::Outcome;
 use dev_model::{Failed, Sink};
-use script_lang::{print_answer, print_refused};
+use script_lang::{Why, print_answer, print_refused};
 
 fn print_answered<K: Sink>(out: &mut K, place: u64, outcome: &Outcome) -> Result<(), Failed>
     ensures counts { Counts (K.fault_count out.old) (K.fault_count out.new) result }
@@ -70,7 +69,7 @@ fn print_refusals<K: Sink>(out: &mut K, outcomes: &[Outcome]) -> Result<(), Fail
 }
 
 /// Prints the outcomes of lane 0.
-pub fn print_outcomes<K: Sink>(out: &mut K, outcomes: &[Outcome]) -> Result<(), Failed>
+pub(crate) fn print_outcomes<K: Sink>(out: &mut K, outcomes: &[Outcome]) -> Result<(), Failed>
     ensures counts { Counts (K.fault_count out.old) (K.fault_count out.new) result }
     ensures told { Says (K.taken out.old) (K.taken out.new)
         (answers_text 0 (outcomes_of outcomes.now) ++ refusals_text 0 (outcomes_of outcomes.now)) result }
@@ -81,12 +80,46 @@ pub fn print_outcomes<K: Sink>(out: &mut K, outcomes: &[Outcome]) -> Result<(), 
     print_refusals(out, outcomes)
 }
 
-/// Whether a command was refused.
-pub fn has_refusal(outcomes: &[Outcome]) -> bool
-    ensures { result ≡ list_any (λ o. is_refused (outcome_of o)) outcomes.now }
+/// For which causes commands were refused.
+#[derive(Clone, Copy)]
+pub(crate) struct Refusals {
+    pub damaged: bool,
+    pub device: bool,
+    pub full: bool,
+    pub no_index: bool,
+    pub memory: bool,
+}
+
+// One outcome more.
+fn with_outcome(before: Refusals, outcome: &Outcome) -> Refusals
+    ensures { result ≡ with_outcome before (outcome_of outcome.now) }
 {
-    outcomes.iter().any(|o| match o {
-        Outcome::Refused(_) => true,
-        Outcome::Answered { .. } => false,
-    })
+    let mut refusals = before;
+    if let Outcome::Refused(why) = outcome {
+        match why {
+            Why::Damaged => refusals.damaged = true,
+            Why::Fault | Why::Stopped => refusals.device = true,
+            Why::Full => refusals.full = true,
+            Why::NoIndex => refusals.no_index = true,
+            Why::Memory => refusals.memory = true,
+        }
+    }
+    refusals
+}
+
+/// For which causes any of the commands was refused.
+pub(crate) fn refusals_of(outcomes: &[Outcome]) -> Refusals
+    ensures { result ≡ refusals_in (outcomes_of outcomes.now) }
+{
+    let mut refusals = Refusals {
+        damaged: false,
+        device: false,
+        full: false,
+        no_index: false,
+        memory: false,
+    };
+    for outcome in outcomes {
+        refusals = with_outcome(refusals, outcome);
+    }
+    refusals
 }

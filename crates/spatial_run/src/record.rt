@@ -1,4 +1,4 @@
-// The record of a run.
+// The record of a run, and how a call of the program ends.
 
 use geo_base::ItemList;
 use script_lang::{Answer, Why};
@@ -10,8 +10,10 @@ pub enum Outcome {
     Refused(Why),
 }
 
+/// The outcomes of a list of commands.
 pub type OutcomeList = ItemList<Outcome>;
 
+/// The outcomes of each lane.
 pub type LaneOutcomes = ItemList<OutcomeList>;
 
 /// The outcomes of the commands of a script, phase by phase.

@@ -1,37 +1,124 @@
-// The top call: what the program does with its words, its script and its output.
-ghost use Rattle.std.specs.Prelude.{◌≡◌, ◌<◌, ◌≤◌, ◌↔◌, map, false};
-ghost use Rattle.dev_model.specs.Counts.{Rose};
-ghost use Rattle.spatial_run.specs.Endings.{is_serial, HasBadScript, Ends};
+// The top calls: what the program does with its words, its script, its output and its device.
+ghost use Rattle.std.specs.Prelude.{◌≡◌, ◌≤◌, Some, map};
+ghost use Rattle.wal_log.specs.declared.places.TheConstants.{LOG_PAGES};
+ghost use Rattle.store_core.specs.Stores.{device_of};
+ghost use Rattle.spatial_run.specs.Tasks.{task_of, serial};
+ghost use Rattle.spatial_run.specs.Endings.{Ends, HandsOut};
+ghost use Rattle.spatial_run.specs.Views.{record_of, ending_of};
+ghost use Rattle.spatial_run.specs.Steps.{IsPlain};
+ghost use Rattle.spatial_run.specs.Parts.{IsFinished};
 
-use crate::command::run_command;
-use crate::ending::{print_ending, status};
-use dev_model::{Sink, Source};
+use crate::device::{Run, run_task};
+use crate::ending::{Ending, print_ending, status};
+use crate::record::{LaneOutcomes, OutcomeList, RunRecord};
+use crate::task::{Task, task_of};
+use dev_model::{Device, Sink, Source};
+use geo_base::ItemList;
 use std::alloc::Global;
 
-/// Runs the command that the words name on the script, prints, and answers the program's status.
-///
-/// The one command is `serial`: the script is read to its end, its commands are answered one after another from the
-/// empty table, and then the answers and refusals are printed. The status is the first of these that holds:
-/// 1, the words are others; 3, the source failed; 2, the script holds a bad line or is too long; 4, the sink failed,
-/// and what is out is a front of the text; 8, memory was refused; and else 0.
-pub fn run_top<R: Source, K: Sink>(alloc: Global, words: &[&str], script: &mut R, out: &mut K) -> u8
-    // What is printed is one history of a plain table, each command answered as the table answers at that place; a
-    // put or a region alone is ever refused, for want of memory; and each other ending and status has its cause.
-    ensures headline { Ends (map (λ w. w.now) words.now)
-        (R.fault_count script.old) (R.fault_count script.new) (R.left script.old)
-        (K.fault_count out.old) (K.fault_count out.new) (K.taken out.old) (K.taken out.new) result }
-    // The same status by status, where a count that rose tells: exactly the other words have status 1;
-    ensures words { (result ≡ 1) ↔ (is_serial (map (λ w. w.now) words.now) ≡ false) }
-    // the source failed where the status is 3, and where its count rose the status is 3;
-    ensures source { result ≡ 3 → Rose (R.fault_count script.old) (R.fault_count script.new) }
-    ensures source_rose { R.fault_count script.old < R.fault_count script.new → result ≡ 3 }
-    // the script is bad where the status is 2;
-    ensures bad_script { result ≡ 2 → HasBadScript (R.left script.old) }
-    // the sink failed where the status is 4, and where its count rose the status is 4 or one that comes before it.
-    ensures sink { result ≡ 4 → Rose (K.fault_count out.old) (K.fault_count out.new) }
-    ensures sink_rose { K.fault_count out.old < K.fault_count out.new → (0 < result) × (result ≤ 4) }
+/// What a call leaves: the program's status, the device, the clock of each write that was logged from which on each crash leaves
+/// it, and what became of the commands of the script, if they ran.
+#[derive(Drop)]
+pub struct Ended<D: Device> {
+    pub status: u8,
+    pub device: D,
+    pub acks: ItemList<u64>,
+    pub outcomes: RunRecord,
+}
+
+// The record of an ending.
+fn record_of(alloc: Global, ending: Ending) -> RunRecord
+    ensures { HandsOut (ending_of ending) (record_of result) }
 {
-    let ending = run_command(alloc, words, script);
+    match ending {
+        Ending::Ran(_, record) => record,
+        _ => RunRecord {
+            setup: OutcomeList::new(alloc),
+            lanes: LaneOutcomes::new(alloc),
+            after: OutcomeList::new(alloc),
+        },
+    }
+}
+
+// Prints how a task ended.
+fn finish<K: Sink, D: Device>(alloc: Global, run: Run<D>, out: &mut K) -> Ended<D>
+    requires plain { IsPlain (ending_of run.ending) }
+    ensures finished { IsFinished (ending_of run.ending) (K.fault_count out.old) (K.fault_count out.new) (K.taken out.old) (K.taken out.new) result.status (record_of result.outcomes) }
+    ensures device { result.device ≡ run.device }
+    ensures acks { result.acks ≡ run.acks }
+{
+    let Run {
+        ending,
+        device,
+        acks,
+    } = run;
     let sent = print_ending(out, &ending);
-    status(&ending, sent)
+    let status = status(&ending, sent);
+    Ended {
+        status,
+        device,
+        acks,
+        outcomes: record_of(alloc, ending),
+    }
+}
+
+/// Reads the script to its end, opens the store that is on the device, runs the commands one after another, and prints.
+///
+/// It waits for nobody, and always returns. The contract is that of `run_top` for the word `serial`.
+pub fn run_serial<R: Source, K: Sink, D: Device>(
+    alloc: Global,
+    script: &mut R,
+    out: &mut K,
+    device: D,
+) -> Ended<D>
+    requires pages { LOG_PAGES ≤ D.pages device }
+    ensures headline { Ends (Some serial) (record {
+      source_old = R.fault_count script.old;
+      source_new = R.fault_count script.new;
+      left = R.left script.old;
+      sink_old = K.fault_count out.old;
+      sink_new = K.fault_count out.new;
+      before = K.taken out.old;
+      after = K.taken out.new;
+      device_old = device_of D.pages D.clock D.fault_count D.story device;
+      device_new = device_of D.pages D.clock D.fault_count D.story result.device;
+    }) result.status result.acks.items (record_of result.outcomes) }
+{
+    let run = run_task(alloc, Some(Task::Serial), script, device);
+    finish(alloc, run, out)
+}
+
+/// Does what the words ask for, prints, and answers with the program's status.
+///
+/// `format INDEXES` makes the device an empty store; `serial` runs the script on the store that is there; `fresh INDEXES` does
+/// both, and prints nothing of the format. The script is read to its end before the device is touched. Its commands are
+/// answered one after another, and then the answers and refusals are printed. The status is the first of these that holds: 1,
+/// the words are others; 3, the source failed; 2, the script holds a bad line or is too long; 6, what is on the device can't be;
+/// 5, the device failed; 7, there was no room; 9, there is no such index; 4, the sink failed, and what is out is a front of the
+/// text; 8, memory was refused; and else 0.
+pub fn run_top<R: Source, K: Sink, D: Device>(
+    alloc: Global,
+    words: &[&str],
+    script: &mut R,
+    out: &mut K,
+    device: D,
+) -> Ended<D>
+    requires pages { LOG_PAGES ≤ D.pages device }
+    // What is printed is one history of a plain table, each command answered as the table answers at that place; a crash at any
+    // moment leaves the table after the first of the writes, with every acknowledged one; and each ending and status has its
+    // cause.
+    ensures headline { Ends (task_of (map (λ w. w.now) words.now)) (record {
+      source_old = R.fault_count script.old;
+      source_new = R.fault_count script.new;
+      left = R.left script.old;
+      sink_old = K.fault_count out.old;
+      sink_new = K.fault_count out.new;
+      before = K.taken out.old;
+      after = K.taken out.new;
+      device_old = device_of D.pages D.clock D.fault_count D.story device;
+      device_new = device_of D.pages D.clock D.fault_count D.story result.device;
+    }) result.status result.acks.items (record_of result.outcomes) }
+{
+    let run = run_task(alloc, task_of(words), script, device);
+    finish(alloc, run, out)
 }

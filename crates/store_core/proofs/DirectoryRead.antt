@@ -27,8 +27,8 @@ module _ (s : Story) (page : ℕ) (few : page < 8) (buf : List ℕ) (whole : len
       ⊎_elim
       (λ earlier. before n earlier is)
       (λ here.
-        let place : 64 * page + (n - 64 * page) ≡ n = omega (arith, here) in
-        shut (n - 64 * page) (omega (arith, here, lt)) (gate (n - 64 * page) (omega (arith, here, lt)) ∙ ap (λ (k : ℕ). bytes_of s (slot_start k)) place ∙ is))
+      let place : 64 * page + (n - 64 * page) ≡ n = omega (arith, here) in
+      shut (n - 64 * page) (omega (arith, here, lt)) (gate (n - 64 * page) (omega (arith, here, lt)) ∙ ap (λ (k : ℕ). bytes_of s (slot_start k)) place ∙ is))
       (before_or_since n (64 * page))
 
   pub bad-slot : (n : ℕ) → IsFirstOpen buf n → AreClosedBefore page (bytes_of s) → IsBadSlot (64 * page + n) (bytes_of s)
@@ -36,12 +36,12 @@ module _ (s : Story) (page : ℕ) (few : page < 8) (buf : List ℕ) (whole : len
     slot = omega (arith, few, first.slot);
     is_open = sym (gate n first.slot) ∙ first.is_open;
     lowest = λ m lt is.
-      ⊎_elim
-      (λ earlier. before m earlier is)
-      (λ here.
+        ⊎_elim
+        (λ earlier. before m earlier is)
+        (λ here.
         let place : 64 * page + (m - 64 * page) ≡ m = omega (arith, here) in
         first.lowest (m - 64 * page) (omega (arith, here, lt)) (gate (m - 64 * page) (omega (arith, here, lt, first.slot)) ∙ ap (λ (k : ℕ). bytes_of s (slot_start k)) place ∙ is))
-      (before_or_since m (64 * page));
+        (before_or_since m (64 * page));
   }
 
 pub all-closed : (bytes : Bytes) → AreClosedBefore 8 bytes → HasNoComponent bytes

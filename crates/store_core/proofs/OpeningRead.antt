@@ -123,8 +123,7 @@ module _ (pages indexes : ℕ) (a b c : Option Story) (front : HasFront pages in
   bad-log : (k : ℕ) → WhereTold c (λ t. IsStill t → IsBad ends (segments_of (bytes_of t)) k) → IsRefusal pages (BadLog k) (bytes_of s)
   bad-log k bad =
       let there = told-reads s c both in
-      let same : Same s there.0 = same-reads s c both there.0 there.1 in
-      (
+      let same : Same s there.0 = same-reads s c both there.0 there.1 in (
         (front.formatted s is (calm-superblock s calm)).0,
         directory-there,
         subst (λ (x : Bytes). IsBad ends (segments_of x) k) same.bytes (bad there.0 there.1 (calm-log s there.0 same calm)),
@@ -164,29 +163,29 @@ opens-from device now indexes table log records pages clock_told table_is reads 
         tells = λ is. absurd (let no : false ≡ true = is in cc);
       };
       known = λ s is calm.
-        let has : HasRead device.pages s now.story indexes log records = read s is calm in
-        let there = told-reads s now.story (reads s is) in
-        let u : Story = there.0 in
-        let same : Same s u = same-reads s now.story (reads s is) u there.1 in
-        let table_of : recovered (bytes_of s) ≡ table = ap (replayed empty) (sym has.records_are) ∙ sym table_is in
-        let clock : now.clock ≡ clock_of u = clock_told u there.1 in
-        let rest : IsAtRest device.pages log table u = record {
-          formatted = subst (λ (x : Bytes). IsFormatted device.pages x) (sym same.bytes) has.formatted;
-          directory = subst (λ (x : Bytes). HasNoComponent x) (sym same.bytes) has.directory;
-          superblock_calm = λ i looked. same.settled i (calm i (inl (subst (λ (x : Bytes). IsLookedInSuperblock x i) same.bytes looked)));
-          directory_calm = λ i gate. same.settled i (calm i (inr (inl gate)));
-          log_rest = has.at_rest u there.1;
-          log_of = subst (λ (x : Bytes). IsLogOf log (segments_of x)) (sym same.bytes) has.log_of;
-          log_opens = subst (λ (x : Bytes). LogOpens ends (segments_of x)) (sym same.bytes) has.opens;
-          table_is = ap recovered same.bytes ∙ table_of;
-        } in
-        let recovers : Recovers device.pages table (bytes_of u) = record {
-          opens = record { formatted = rest.formatted; directory = rest.directory; log = rest.log_opens };
-          table_is = rest.table_is;
-        } in
-        stands_at s is u there.1 same clock rest recovers table_of
-        (λ i looked. same.settled i (calm i (subst (λ (x : Bytes). IsLookedAt x i) same.bytes looked)))
-        (subst (λ (x : Bytes). declared x ≡ indexes) (sym same.bytes) has.declared_is);
+          let has : HasRead device.pages s now.story indexes log records = read s is calm in
+          let there = told-reads s now.story (reads s is) in
+          let u : Story = there.0 in
+          let same : Same s u = same-reads s now.story (reads s is) u there.1 in
+          let table_of : recovered (bytes_of s) ≡ table = ap (replayed empty) (sym has.records_are) ∙ sym table_is in
+          let clock : now.clock ≡ clock_of u = clock_told u there.1 in
+          let rest : IsAtRest device.pages log table u = record {
+            formatted = subst (λ (x : Bytes). IsFormatted device.pages x) (sym same.bytes) has.formatted;
+            directory = subst (λ (x : Bytes). HasNoComponent x) (sym same.bytes) has.directory;
+            superblock_calm = λ i looked. same.settled i (calm i (inl (subst (λ (x : Bytes). IsLookedInSuperblock x i) same.bytes looked)));
+            directory_calm = λ i gate. same.settled i (calm i (inr (inl gate)));
+            log_rest = has.at_rest u there.1;
+            log_of = subst (λ (x : Bytes). IsLogOf log (segments_of x)) (sym same.bytes) has.log_of;
+            log_opens = subst (λ (x : Bytes). LogOpens ends (segments_of x)) (sym same.bytes) has.opens;
+            table_is = ap recovered same.bytes ∙ table_of;
+          } in
+          let recovers : Recovers device.pages table (bytes_of u) = record {
+            opens = record { formatted = rest.formatted; directory = rest.directory; log = rest.log_opens };
+            table_is = rest.table_is;
+          } in
+          stands_at s is u there.1 same clock rest recovers table_of
+          (λ i looked. same.settled i (calm i (subst (λ (x : Bytes). IsLookedAt x i) same.bytes looked)))
+          (subst (λ (x : Bytes). declared x ≡ indexes) (sym same.bytes) has.declared_is);
     }
   where
     opened : StoreState

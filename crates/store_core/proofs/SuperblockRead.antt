@@ -28,8 +28,7 @@ module _ (s : Story) (buf : List ℕ) (sixteen : length buf ≡ 16) (read : IsRe
   pub formatted-read : (pages : ℕ) → IsSuperblock pages buf → IsFormatted pages (bytes_of s) × (declared (bytes_of s) ≡ slice_index buf 2)
   formatted-read pages is =
       let open_gate : bytes_of s 0 ≡ 165 = sym gate ∙ is.gate in
-      let indexes : slice_index buf 2 ≡ bytes_of s 2 = all open_gate 2 (omega arith) in
-      (
+      let indexes : slice_index buf 2 ≡ bytes_of s 2 = all open_gate 2 (omega arith) in (
         record {
           gate = open_gate;
           fields = fields open_gate ∙ is.fields ∙ ap (λ (d : ℕ). superblock_bytes d pages) indexes;

@@ -39,22 +39,22 @@ logs s0 s1 s2 s3 t table owner op wrote ack before logged can logs_it seq ops ac
     ∙ ap (λ (n : ℕ). wrote_state s0 s2.device s2.log table n) (sym ack_is) in
     subst (λ (s : StoreState). Makes s0 s owner (Write op (Ok wrote))) (sym end)
     (wrote-logged s0 s2.device s2.log table owner op l.r wrote
-      (record {
-        can = can;
-        all = l.all;
-        did = l.did;
-        width = l.width;
-        ticks = l.ticks;
-        op_is = l.op_is;
-        logs = logs_it;
-        seq = seq ∙ seq_is;
-        ops = ops ∙ l.records;
-        ack = ack_is ∙ l.ack_is;
-        records = l.records;
-        next_lsn = l.next_lsn;
-        old_is = old_is;
-      })
-      table_is)
+    (record {
+      can = can;
+      all = l.all;
+      did = l.did;
+      width = l.width;
+      ticks = l.ticks;
+      op_is = l.op_is;
+      logs = logs_it;
+      seq = seq ∙ seq_is;
+      ops = ops ∙ l.records;
+      ack = ack_is ∙ l.ack_is;
+      records = l.records;
+      next_lsn = l.next_lsn;
+      old_is = old_is;
+    })
+    table_is)
 
 -- a write that the device refused
 pub fails : (s0 s1 s2 s3 : StoreState) (t : Table) (owner : ℕ) (op : LogOp) → s1 ≡ record s0 { table = t } → LogFails s1 s2 op → CanWrite s0 → s3 ≡ record s2 { table = s0.table }
@@ -73,17 +73,17 @@ nothing_there old new owner key wrote is can old_is seq ops ack absent =
     let same : w ≡ wrote = ap (λ (o : Option (Point × List ℕ)). record wrote { old = o }) (sym old_is) in
     subst (λ (x : Wrote). Makes old new owner (Write (Del key) (Ok x))) same
     (subst (λ (s : StoreState). Makes old s owner (Write (Del key) (Ok w))) (sym is)
-      (still old (next_count old.seq) owner (Write (Del key) (Ok w)) (λ (t : Table). finite.remove t key)
-        (λ m has. ap (λ (n : ℕ). record m { seq = next_count n; table = finite.remove m.table key }) (sym has.seq))
-        (λ o m tells. remove-absent m.table key (ap (λ (t : Table). finite.get t key) (sym tells.table) ∙ absent))
-        refl (λ m. refl)
-        (λ known o m has tells. record {
-          ready = ready-to_write old m can has;
-          seq = seq ∙ has.seq;
-          ops = ops ∙ has.operations;
-          ack = ack;
-          old = λ is_known. sym absent ∙ ap (λ (t : Table). finite.get t key) (tells is_known).table;
-        })))
+    (still old (next_count old.seq) owner (Write (Del key) (Ok w)) (λ (t : Table). finite.remove t key)
+    (λ m has. ap (λ (n : ℕ). record m { seq = next_count n; table = finite.remove m.table key }) (sym has.seq))
+    (λ o m tells. remove-absent m.table key (ap (λ (t : Table). finite.get t key) (sym tells.table) ∙ absent))
+    refl (λ m. refl)
+    (λ known o m has tells. record {
+      ready = ready-to_write old m can has;
+      seq = seq ∙ has.seq;
+      ops = ops ∙ has.operations;
+      ack = ack;
+      old = λ is_known. sym absent ∙ ap (λ (t : Table). finite.get t key) (tells is_known).table;
+    })))
 
 -- a write that is refused before anything is done
 pub refused : (s : StoreState) (owner : ℕ) (op : LogOp) (refusal : Refusal) → RefusesNow s refusal → Makes s s owner (Write op (Err refusal))

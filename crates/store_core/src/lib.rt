@@ -12,3 +12,6 @@ mod writing;
 pub use opening::OpenFault;
 pub use region::RegionRows;
 pub use store::Store;
+
+#[cfg(test)]
+mod tests;

@@ -19,20 +19,26 @@ use crate::superblock::read_superblock;
 use dev_model::Device;
 use geo_base::{IndexSet, ItemList};
 use std::alloc::{AllocError, Global};
+use thiserror::Error;
 use wal_log::{LOG_PAGES, Log, LogFault, LogOp, Record};
 
 /// Why a device can't be opened.
-#[derive(Clone, Copy, Debug, PartialEq, Eq)]
+#[derive(Clone, Copy, Debug, PartialEq, Eq, Error)]
 pub enum OpenFault {
     /// The superblock isn't that of a formatted device of this length.
+    #[error("the device isn't formatted")]
     NotFormatted,
     /// This slot of the directory can't be.
+    #[error("slot {0} is bad")]
     BadSlot(u16),
     /// This segment of the log can't be.
+    #[error("log segment {0} is bad")]
     BadLog(u8),
     /// A call of the device failed.
+    #[error("the device failed")]
     Fault,
     /// Memory was refused.
+    #[error("out of memory")]
     OutOfMemory,
 }
 
@@ -142,15 +148,15 @@ impl<D: Device> Store<D> {
     // The store when nothing has happened yet.
     fn of_image(alloc: Global, device: D, indexes: IndexSet, log: Log, rows: Rows) -> Store<D>
         ensures { state_of D.pages D.clock D.fault_count D.story result ≡ record {
-            device = device_of D.pages D.clock D.fault_count D.story device;
-            declared = indexes;
-            table = rows;
-            seq = 0;
-            stopped = None;
-            log = log;
-            acks = [];
-            opened_at = D.clock device;
-            opened_faults = D.fault_count device;
+          device = device_of D.pages D.clock D.fault_count D.story device;
+          declared = indexes;
+          table = rows;
+          seq = 0;
+          stopped = None;
+          log = log;
+          acks = [];
+          opened_at = D.clock device;
+          opened_faults = D.fault_count device;
         } }
     {
         let opened_at = device.clock();

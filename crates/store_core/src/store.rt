@@ -6,7 +6,7 @@ ghost use Rattle.dev_model.specs.Counts.{next_count};
 ghost use Rattle.table_model.specs.Table.{place_of};
 ghost use Rattle.store_machine.specs.Standing.{IsReady, Makes};
 ghost use Rattle.store_machine.specs.declared.events.Action.{Action};
-ghost use Rattle.store_core.specs.Stores.{state_of};
+ghost use Rattle.store_core.specs.Stores.{state_of, device_of};
 
 use crate::rows::Rows;
 use dev_model::Device;
@@ -103,7 +103,7 @@ impl<D: Device> Store<D> {
 
     /// The device, and the acks.
     pub fn into_dev(self) -> (D, ItemList<u64>)
-        ensures device { result.0 ≡ self.device }
+        ensures device { device_of D.pages D.clock D.fault_count D.story result.0 ≡ (state_of D.pages D.clock D.fault_count D.story self).device }
         ensures acks { result.1.items ≡ (state_of D.pages D.clock D.fault_count D.story self).acks }
     {
         let Store { device, acks, .. } = self;

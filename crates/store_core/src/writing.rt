@@ -134,12 +134,7 @@ impl<D: Device> Store<D> {
             Ok(ack) => {
                 let seq = self.draw();
                 let ops = self.log.records as u32;
-                Ok(Wrote {
-                    seq,
-                    old,
-                    ops,
-                    ack,
-                })
+                Ok(Wrote { seq, old, ops, ack })
             }
             Err(_) => {
                 self.rows.restore(row.key, old);

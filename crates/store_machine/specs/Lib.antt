@@ -5,3 +5,4 @@ pub mod Commands
 pub mod Crash
 pub mod Standing
 pub mod Laws
+pub mod Examples

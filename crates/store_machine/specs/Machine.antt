@@ -19,27 +19,21 @@ Group = List TableWrite
 
 pub record Machine : Type 0 where
   pub table : Table
-
   -- what was logged since the opening, and for each group the clock from which on each crash leaves it
   pub logged : List Group
   pub acks : List ℕ
-
   -- the device's count of faults when a write or a sync of it failed, and the group that was being logged then
   pub stopped : Option ℕ
   pub unfinished : Option Group
-
   -- the number of the next write, and how many writes wait to be flushed
   pub next_lsn : ℕ
   pub operations : ℕ
-
   -- the number of the next answer
   pub seq : ℕ
-
   -- the declared indexes, as bits
   pub declared : ℕ
   pub faults : ℕ
   pub clock : ℕ
-
   -- those that succeeded since the opening
   pub device_calls : List DeviceCall
 

@@ -11,7 +11,8 @@ ghost use Rattle.wal_log.specs.State.{IsAtRest, IsCounted, IsLogOf, HasRecordsOr
 
 use crate::Record;
 use crate::places::{
-    LOG_PAGES, LSN_LIMIT, MOST_RECORDS, OPEN, RECORD_BYTES, SEGMENT_BYTES, record_start, segment_start,
+    LOG_PAGES, LSN_LIMIT, MOST_RECORDS, OPEN, RECORD_BYTES, SEGMENT_BYTES, record_start,
+    segment_start,
 };
 use crate::spelling::{header_with_closed_gate, with_closed_gate};
 use dev_model::{Device, Failed, write_synced};

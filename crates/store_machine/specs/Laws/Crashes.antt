@@ -64,12 +64,12 @@ acknowledged pages from table groups acks ack u all acked at before now m le_fro
     ⊎_elim
     (λ earlier. subst (λ (n : ℕ). RecoversFirst pages table groups n image) (sym (acked_by-later m ack acks earlier)) (before m le_from le_to image is))
     (λ since.
-      let here : m ≡ clock_of u = omega arith in
-      let recovers : Recovers pages (after_groups table groups) image = now image (IsImage-now u image (subst (λ (n : ℕ). IsImage u n image) here is)) in
-      let up : AreUpTo (clock_of u) (acks ++ ack ∷ []) = AreUpTo-push (clock_of u) ack acks acked (omega arith) in
-      let count : acked_by m (acks ++ ack ∷ []) ≡ length acks + 1 = acked_by-all m (clock_of u) (acks ++ ack ∷ []) up (omega arith) ∙ length_push acks ack in
-      let all_of : take (acked_by m (acks ++ ack ∷ [])) groups ≡ groups = take_all (acked_by m (acks ++ ack ∷ [])) groups (omega (arith, count)) in
-      inl (subst (λ (g : List Group). Recovers pages (after_groups table g) image) (sym all_of) recovers))
+    let here : m ≡ clock_of u = omega arith in
+    let recovers : Recovers pages (after_groups table groups) image = now image (IsImage-now u image (subst (λ (n : ℕ). IsImage u n image) here is)) in
+    let up : AreUpTo (clock_of u) (acks ++ ack ∷ []) = AreUpTo-push (clock_of u) ack acks acked (omega arith) in
+    let count : acked_by m (acks ++ ack ∷ []) ≡ length acks + 1 = acked_by-all m (clock_of u) (acks ++ ack ∷ []) up (omega arith) ∙ length_push acks ack in
+    let all_of : take (acked_by m (acks ++ ack ∷ [])) groups ≡ groups = take_all (acked_by m (acks ++ ack ∷ [])) groups (omega (arith, count)) in
+    inl (subst (λ (g : List Group). Recovers pages (after_groups table g) image) (sym all_of) recovers))
     (before_or_since m ack)
 
 -- A call that leaves the table: where each image of each of its moments has it, what was acknowledged is kept.
@@ -78,7 +78,7 @@ pub keeps_table : (pages from : ℕ) (table : Table) (groups : List Group) (acks
 keeps_table pages from table groups acks s t now all up before run is =
     subst (λ (u : Story). EachMoment from u (Keeps pages table groups acks)) (same_Some _ _ (sym run.told ∙ is))
     (EachMoment-join from s run.calls (Keeps pages table groups acks) before
-      (λ m le_from le_to image left.
-        let recovers : Recovers pages (after_groups table groups) image = run.each m le_from le_to image left in
-        let rows : take (acked_by m acks) groups ≡ groups = take_all (acked_by m acks) groups (omega (arith, acked_by-all m (clock_of s) acks up le_from, all)) in
-        inl (subst (λ (g : List Group). Recovers pages (after_groups table g) image) (sym rows) recovers)))
+    (λ m le_from le_to image left.
+    let recovers : Recovers pages (after_groups table groups) image = run.each m le_from le_to image left in
+    let rows : take (acked_by m acks) groups ≡ groups = take_all (acked_by m acks) groups (omega (arith, acked_by-all m (clock_of s) acks up le_from, all)) in
+    inl (subst (λ (g : List Group). Recovers pages (after_groups table g) image) (sym rows) recovers)))

@@ -82,25 +82,25 @@ done known m (action.Write op (Ok w)) c o needs call =
 done known m (action.Write op (Err refusal)) c o needs call =
     subst (λ (x : Command). Done known m m x o) (sym call.0)
     (subst (λ (x : Outcome). Done known m m (write (write_of op)) x) (sym call.1)
-      (record { was = (refused_write known m op refusal needs, refl, refl); logged = nothing_more m (write (write_of op)) (why_of refusal) }))
+    (record { was = (refused_write known m op refusal needs, refl, refl); logged = nothing_more m (write (write_of op)) (why_of refusal) }))
 done known m (action.Get key (Ok answer)) c o needs call =
     subst (λ (x : Command). Done known m (does (action.Get key (Ok answer)) m) x o) (sym call.0)
     (subst (λ (x : Outcome). Done known m (does (action.Get key (Ok answer)) m) (get key) x) (sym call.1)
-      (record { was = (needs.seq, refl, λ is. ap (λ (p : Option Place). got p) (needs.row is), refl); logged = sym (append-nil m.logged) }))
+    (record { was = (needs.seq, refl, λ is. ap (λ (p : Option Place). got p) (needs.row is), refl); logged = sym (append-nil m.logged) }))
 done known m (action.Get key (Err refusal)) c o needs call = absurd needs
 done known m (action.Count seq n) c o needs call =
     subst (λ (x : Command). Done known m (does (action.Count seq n) m) x o) (sym call.0)
     (subst (λ (x : Outcome). Done known m (does (action.Count seq n) m) count x) (sym call.1)
-      (record { was = (needs.0, refl, λ is. ap (λ (k : ℕ). counted k) (needs.1 is), refl); logged = sym (append-nil m.logged) }))
+    (record { was = (needs.0, refl, λ is. ap (λ (k : ℕ). counted k) (needs.1 is), refl); logged = sym (append-nil m.logged) }))
 done known m (action.Look look) c o needs call = absurd call
 done known m (action.Region kind rect (Ok answer)) c o needs call =
     subst (λ (x : Command). Done known m (does (action.Region kind rect (Ok answer)) m) x o) (sym call.0)
     (subst (λ (x : Outcome). Done known m (does (action.Region kind rect (Ok answer)) m) (region kind rect) x) (sym call.1)
-      (record { was = (needs.seq, refl, λ is. ap (λ rs. rows rs) (needs.rows is), refl); logged = sym (append-nil m.logged) }))
+    (record { was = (needs.seq, refl, λ is. ap (λ rs. rows rs) (needs.rows is), refl); logged = sym (append-nil m.logged) }))
 done known m (action.Region kind rect (Err refusal)) c o needs call =
     subst (λ (x : Command). Done known m m x o) (sym call.0)
     (subst (λ (x : Outcome). Done known m m (region kind rect) x) (sym call.1)
-      (record { was = (may refusal needs, refl, refl); logged = nothing_more m (region kind rect) (why_of refusal) }))
+    (record { was = (may refusal needs, refl, refl); logged = nothing_more m (region kind rect) (why_of refusal) }))
   where
     may : (refusal : Refusal) → Needs known m (action.Region kind rect (Err refusal)) → MayRefuse (region kind rect) (why_of refusal)
     may Fault needs = absurd needs
@@ -176,9 +176,9 @@ more known m n end c cs (answered seq reply) os room was logs left rest =
       from = omega (arith, was.0);
       rises = rises_from seq (seqs os) (subst (λ (k : ℕ). IsFrom k (seqs os)) (next ∙ ap (λ (k : ℕ). k + 1) (sym was.0)) rest.from) rest.rises;
       replied = λ is lane.
-        let later : map (λ a. a.reply) (lane_answers lane cs os) ≡ replies (table_after m.table c) (map (λ a. a.command) (lane_answers lane cs os)) =
-        subst (λ (t : Table). map (λ a. a.reply) (lane_answers lane cs os) ≡ replies t (map (λ a. a.command) (lane_answers lane cs os))) was.3 (rest.replied is lane) in
-        λ j. was.2 is j ∷ later j;
+          let later : map (λ a. a.reply) (lane_answers lane cs os) ≡ replies (table_after m.table c) (map (λ a. a.command) (lane_answers lane cs os)) =
+          subst (λ (t : Table). map (λ a. a.reply) (lane_answers lane cs os) ≡ replies t (map (λ a. a.command) (lane_answers lane cs os))) was.3 (rest.replied is lane) in
+          λ j. was.2 is j ∷ later j;
       logged = rest.logged ∙ ap (λ (g : List Group). g ++ logged_groups cs os) logs ∙ append_assoc m.logged (logged_by c (answered seq reply)) (logged_groups cs os);
       unfinished = rest.unfinished ∙ ap (λ (g : Option Group). failed_group g cs os) left;
     }

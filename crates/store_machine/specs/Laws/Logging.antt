@@ -104,12 +104,12 @@ wrote-machine : (m : Machine) (old : StoreState) (now : DeviceState) (owner : �
     → wrote_machine m old now op r wrote ≡ after_event m (wrote_event old now owner op r wrote)
 wrote-machine m old now owner op r wrote logs =
     ap (λ (logged : Bool).
-      let n : Machine = if logged then after_logged (write_of op ∷ []) wrote.ack m else m in
-      record (after_answer (record n { table = after_write m.table (write_of op) })) {
-        faults = now.faults;
-        clock = now.clock;
-        device_calls = m.device_calls ++ ok_calls old.device.clock (append_calls old.log r);
-      }) (sym logs)
+    let n : Machine = if logged then after_logged (write_of op ∷ []) wrote.ack m else m in
+    record (after_answer (record n { table = after_write m.table (write_of op) })) {
+      faults = now.faults;
+      clock = now.clock;
+      device_calls = m.device_calls ++ ok_calls old.device.clock (append_calls old.log r);
+    }) (sym logs)
 
 wrote_tells : (o : Opening) (old : StoreState) (now : DeviceState) (log : Log) (table : Table) (op : LogOp) (r : Record) (wrote : Wrote) (m : Machine)
     → WroteAll old now log op r wrote → table ≡ after_write old.table (write_of op) → Has old m → Tells o old m → Tells o (wrote_state old now log table wrote.ack) (wrote_machine m old now op r wrote)
@@ -166,25 +166,25 @@ wrote-logged old now log table owner op r wrote all table_is =
     (record { owner_is = refl; action_is = refl; before_it = refl; after_it = refl; time = refl })
     refl refl
     (λ known o m has tells.
-      let is : wrote_machine m old now op r wrote ≡ after_event m (wrote_event old now owner op r wrote) = wrote-machine m old now owner op r wrote all.logs in
-      record {
-        allows = record {
-          needs = record {
-            ready = ready-to_write old m all.can has;
-            seq = all.seq ∙ has.seq;
-            ops = all.ops ∙ ap (λ (n : ℕ). n + 1) has.operations ∙ ap (λ (logged : Bool). if logged then m.operations + 1 else m.operations) (sym all.logs);
-            ack = all.ack ∙ all.ticks ∙ ap (λ (n : ℕ). n + 4) has.clock ∙ ap (λ (logged : Bool). if logged then m.clock + 4 else 0) (sym all.logs);
-            old = λ is_known. all.old_is ∙ ap (λ (x : Table). finite.get x (key_of op)) (tells is_known).table;
-          };
-          calls = λ _. subst (λ (logged : Bool). MakesWriteCalls logged m.clock (ok_calls old.device.clock (append_calls old.log r))) (sym all.logs)
-            (subst (λ (c : ℕ). IsLogWrite c (ok_calls old.device.clock (append_calls old.log r))) has.clock (log_write old.device.clock old.log r all.can.room all.width));
-          stops = refl;
-          later = omega (arith, has.faults);
-          faults = all.all.appends.later;
-          cause = λ fault. absurd (let e : true ≡ false = sym fault in cc);
-          time = omega (arith, has.clock, all.ticks);
+    let is : wrote_machine m old now op r wrote ≡ after_event m (wrote_event old now owner op r wrote) = wrote-machine m old now owner op r wrote all.logs in
+    record {
+      allows = record {
+        needs = record {
+          ready = ready-to_write old m all.can has;
+          seq = all.seq ∙ has.seq;
+          ops = all.ops ∙ ap (λ (n : ℕ). n + 1) has.operations ∙ ap (λ (logged : Bool). if logged then m.operations + 1 else m.operations) (sym all.logs);
+          ack = all.ack ∙ all.ticks ∙ ap (λ (n : ℕ). n + 4) has.clock ∙ ap (λ (logged : Bool). if logged then m.clock + 4 else 0) (sym all.logs);
+          old = λ is_known. all.old_is ∙ ap (λ (x : Table). finite.get x (key_of op)) (tells is_known).table;
         };
-        has = subst (λ (k : Machine). Has (wrote_state old now log table wrote.ack) k) is
+        calls = λ _. subst (λ (logged : Bool). MakesWriteCalls logged m.clock (ok_calls old.device.clock (append_calls old.log r))) (sym all.logs)
+            (subst (λ (c : ℕ). IsLogWrite c (ok_calls old.device.clock (append_calls old.log r))) has.clock (log_write old.device.clock old.log r all.can.room all.width));
+        stops = refl;
+        later = omega (arith, has.faults);
+        faults = all.all.appends.later;
+        cause = λ fault. absurd (let e : true ≡ false = sym fault in cc);
+        time = omega (arith, has.clock, all.ticks);
+      };
+      has = subst (λ (k : Machine). Has (wrote_state old now log table wrote.ack) k) is
           (record {
             stopped = has.stopped;
             seq = ap next_count has.seq;
@@ -197,9 +197,9 @@ wrote-logged old now log table owner op r wrote all table_is =
             counted = length_push m.acks wrote.ack ∙ ap (λ (n : ℕ). n + 1) has.counted ∙ sym (length_push m.logged (write_of op ∷ []));
             running = has.running;
           });
-        tells = λ is_known. subst (λ (k : Machine). Tells o (wrote_state old now log table wrote.ack) k) is
+      tells = λ is_known. subst (λ (k : Machine). Tells o (wrote_state old now log table wrote.ack) k) is
           (wrote_tells o old now log table op r wrote m all table_is has (tells is_known));
-      })
+    })
 
 -- the calls of a run that failed, as far as they succeeded
 abbrev pub failed_calls : (told now : Option Story) (plan : Calls) → WhereTold told (λ s. StopsWithin s now (ok_calls (clock_of s) plan)) → List DeviceCall
@@ -290,10 +290,10 @@ write-failed old now owner op r fails =
     (record { owner_is = refl; action_is = refl; before_it = refl; after_it = refl; time = refl })
     refl refl
     (λ known o m has tells.
-      record {
-        allows = record {
-          needs = ready-to_write old m fails.can has;
-          calls = λ is_known.
+    record {
+      allows = record {
+        needs = ready-to_write old m fails.can has;
+        calls = λ is_known.
             let t : Tells o old m = tells is_known in
             let by : StoppedBy t.now now.story (ok_calls (clock_of t.now) plan) made = failed-by old.device.story now.story plan fails.stops t.now t.told in
             record {
@@ -302,25 +302,25 @@ write-failed old now owner op r fails =
               left = by.left;
               front = by.first;
             };
-          stops = refl;
-          later = omega (arith, has.faults);
-          faults = fails.appends.later;
-          cause = λ _. fails.rose;
-          time = omega (arith, has.clock, fails.time);
-        };
-        has = record {
-          stopped = refl;
-          seq = has.seq;
-          next_lsn = has.next_lsn;
-          operations = has.operations;
-          acks = has.acks;
-          declared = has.declared;
-          faults = refl;
-          clock = refl;
-          counted = has.counted;
-          running = λ stopped. absurd (let none : ◌≡◌ {A = Option ℕ} (Some now.faults) None = stopped in cc);
-        };
-        tells = λ is_known.
+        stops = refl;
+        later = omega (arith, has.faults);
+        faults = fails.appends.later;
+        cause = λ _. fails.rose;
+        time = omega (arith, has.clock, fails.time);
+      };
+      has = record {
+        stopped = refl;
+        seq = has.seq;
+        next_lsn = has.next_lsn;
+        operations = has.operations;
+        acks = has.acks;
+        declared = has.declared;
+        faults = refl;
+        clock = refl;
+        counted = has.counted;
+        running = λ stopped. absurd (let none : ◌≡◌ {A = Option ℕ} (Some now.faults) None = stopped in cc);
+      };
+      tells = λ is_known.
           let t : Tells o old m = tells is_known in
           failed_tells o old now owner op r made m fails has t (failed-by old.device.story now.story plan fails.stops t.now t.told);
-      })
+    })

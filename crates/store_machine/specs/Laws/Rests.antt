@@ -72,8 +72,7 @@ module _ (pages : ℕ) (s : Story) (calls : Calls) (front : HasFront pages s) (s
   -- and each image has it
   pub front-images : EachMoment (clock_of s) (after s calls) (λ _ image. IsFormatted pages image × HasNoComponent image)
   front-images m le_from le_to image is =
-      let there : (i : ℕ) → IsInFront (bytes_of s) i → image i ≡ bytes_of s i = EachMoment-spared s calls (IsInFront (bytes_of s)) here settled m le_from le_to image is in
-      (
+      let there : (i : ℕ) → IsInFront (bytes_of s) i → image i ≡ bytes_of s i = EachMoment-spared s calls (IsInFront (bytes_of s)) here settled m le_from le_to image is in (
         formatted-same pages (bytes_of s) image (λ i looked. there i (inl looked)) front.formatted,
         directory-same (bytes_of s) image (λ i gate. there i (inr gate)) front.directory,
       )

@@ -46,16 +46,16 @@ makes old new owner action e is opened_at opened_faults step =
       event = e;
       is = is;
       adds = λ known o before stands.
-        let begin : Machine = at_opening o in
-        let next : Step known o new (after_all begin before) e = step known o (after_all begin before) stands.has stands.tells in
-        let same : after_event (after_all begin before) e ≡ after_all begin (before ++ e ∷ []) = sym (after_all-append begin before (e ∷ [])) in
-        record {
-          opened_at = opened_at ∙ stands.opened_at;
-          opened_faults = opened_faults ∙ stands.opened_faults;
-          run = IsRun-append known begin before (e ∷ []) stands.run (next.allows, tt);
-          has = subst (λ (n : Machine). Has new n) same next.has;
-          tells = λ is_known. subst (λ (n : Machine). Tells o new n) same (next.tells is_known);
-        };
+          let begin : Machine = at_opening o in
+          let next : Step known o new (after_all begin before) e = step known o (after_all begin before) stands.has stands.tells in
+          let same : after_event (after_all begin before) e ≡ after_all begin (before ++ e ∷ []) = sym (after_all-append begin before (e ∷ [])) in
+          record {
+            opened_at = opened_at ∙ stands.opened_at;
+            opened_faults = opened_faults ∙ stands.opened_faults;
+            run = IsRun-append known begin before (e ∷ []) stands.run (next.allows, tt);
+            has = subst (λ (n : Machine). Has new n) same next.has;
+            tells = λ is_known. subst (λ (n : Machine). Tells o new n) same (next.tells is_known);
+          };
     }
 
 -- a call that makes no device call
@@ -83,37 +83,37 @@ still_step known o s seq owner action table m same same_table no_fault none has 
         time = omega (arith, has.clock);
       };
       has = subst (λ (k : Machine). Has (record s { seq = seq }) k) is
-        (record {
-          stopped = has.stopped;
-          seq = refl;
-          next_lsn = has.next_lsn;
-          operations = has.operations;
-          acks = has.acks;
-          declared = has.declared;
-          faults = refl;
-          clock = refl;
-          counted = has.counted;
-          running = has.running;
-        });
+          (record {
+            stopped = has.stopped;
+            seq = refl;
+            next_lsn = has.next_lsn;
+            operations = has.operations;
+            acks = has.acks;
+            declared = has.declared;
+            faults = refl;
+            clock = refl;
+            counted = has.counted;
+            running = has.running;
+          });
       tells = λ is_known.
-        let t : Tells o s m = tells is_known in
-        let table_is : table ≡ m.table = same_table is_known in
-        subst (λ (k : Machine). Tells o (record s { seq = seq }) k) is
-        (record {
-          opening = t.opening;
-          begins = t.begins;
-          calls = t.calls;
-          now = t.now;
-          went = t.went;
-          told = t.told;
-          clock = t.clock;
-          made = t.made ∙ sym (append-nil m.device_calls);
-          table = t.table ∙ sym table_is;
-          replayed = table_is ∙ t.replayed;
-          at_rest = λ going. subst (λ (k : Table). IsAtRest s.device.pages s.log k t.now) (sym table_is) (t.at_rest going);
-          acked = t.acked;
-          survives = t.survives;
-        });
+          let t : Tells o s m = tells is_known in
+          let table_is : table ≡ m.table = same_table is_known in
+          subst (λ (k : Machine). Tells o (record s { seq = seq }) k) is
+          (record {
+            opening = t.opening;
+            begins = t.begins;
+            calls = t.calls;
+            now = t.now;
+            went = t.went;
+            told = t.told;
+            clock = t.clock;
+            made = t.made ∙ sym (append-nil m.device_calls);
+            table = t.table ∙ sym table_is;
+            replayed = table_is ∙ t.replayed;
+            at_rest = λ going. subst (λ (k : Table). IsAtRest s.device.pages s.log k t.now) (sym table_is) (t.at_rest going);
+            acked = t.acked;
+            survives = t.survives;
+          });
     }
 
 -- An event without a device call. It may draw the next number, and leave the table by another name.
@@ -136,7 +136,7 @@ pub goes_on : (o : Opening) (old : StoreState) (m : Machine) (t : Tells o old m)
 goes_on o old m t calls made is = (
   ap (λ (s : Story). after s calls) t.went ∙ sym (after-append t.opening t.calls calls),
   let clock : clock_of t.opening + length t.calls ≡ clock_of t.now = sym (clock_of-after t.opening t.calls) ∙ ap clock_of (sym t.went) in
-  ok_calls-append (clock_of t.opening) t.calls calls
-  ∙ (λ j. t.made j ++ ok_calls (clock j) calls)
-  ∙ ap (λ (l : List DeviceCall). m.device_calls ++ l) is,
+      ok_calls-append (clock_of t.opening) t.calls calls
+      ∙ (λ j. t.made j ++ ok_calls (clock j) calls)
+      ∙ ap (λ (l : List DeviceCall). m.device_calls ++ l) is,
 )

@@ -1,12 +1,15 @@
 use Rattle.std.proofs.Common.{◌+◌, ◌≤◌, length, take}
-use Rattle.spatial_run.specs.Views.{outcomes_of}
 use Rattle.script_lang.specs.Views.{commands_of}
-use Rattle.spatial_run.proofs.History.{Underway}
+use Rattle.store_machine.specs.Standing.{IsReady}
+use Rattle.store_core.specs.Stores.{state_of}
+use Rattle.spatial_run.specs.Steps.{MadeAll}
+use Rattle.spatial_run.specs.Views.{outcomes_of}
 use Rattle.spatial_run.proofs.running.run_commands.Given as goal
 
 abbrev pub invariant-loop-command : goal.invariant-loop-command
-invariant-loop-command l = record {
-  underway : Underway (commands_of (take l.command-index l.commands)) (outcomes_of l.outcomes.items) l.store l.seq;
+invariant-loop-command g l = record {
+  made : MadeAll (state_of g.D.Device.pages g.D.Device.clock g.D.Device.fault_count g.D.Device.story l.fn.store) (state_of g.D.Device.pages g.D.Device.clock g.D.Device.fault_count g.D.Device.story l.store)
+      (commands_of (take l.command-index l.commands)) (outcomes_of l.outcomes.items);
+  ready : IsReady (state_of g.D.Device.pages g.D.Device.clock g.D.Device.fault_count g.D.Device.story l.store);
   room : length l.commands ≤ l.command-index + l.outcomes.spare;
-  small : l.seq ≤ l.command-index;
 }

@@ -1,31 +1,22 @@
-use Rattle.std.proofs.Common.{◌<◌, ◌≤◌, sym, ◌∙◌, map, subst}
+use Rattle.std.proofs.Common.{◌≡◌, ap, sym, subst, Some, map, Option, List, ℕ}
+use Rattle.store_machine.specs.Standing.{DeviceState}
+use Rattle.store_core.specs.Stores.{device_of}
+use Rattle.spatial_run.specs.Tasks.{Task, serial, task_of}
+use Rattle.spatial_run.specs.Endings.{IsCause}
 use Rattle.spatial_run.specs.Views.{ending_of}
-use Rattle.spatial_run.proofs.Causes.{only_words, other_words, only_source, source_rose, only_bad_script, only_sink, sink_rose}
 use Rattle.spatial_run.proofs.top.run_top.Goals as goal
 
-pub returns-clause-words : goal.returns-clause-words
-returns-clause-words g c = (
-  λ h. only_words (map (λ w. w.now) c.args.words.now) (g.R.Source.fault_count c.args.script.now) (g.R.Source.fault_count c.run_command-ending.new.script) (g.R.Source.left c.args.script.now) (ending_of c.run_command-ending.result) c.print_ending-sent.result c.run_command-ending.ensures.cause (sym c.status.ensures ∙ h),
-  λ h. c.status.ensures ∙ other_words (map (λ w. w.now) c.args.words.now) (g.R.Source.fault_count c.args.script.now) (g.R.Source.fault_count c.run_command-ending.new.script) (g.R.Source.left c.args.script.now) (ending_of c.run_command-ending.result) c.print_ending-sent.result c.run_command-ending.ensures.cause h,
-)
-
-pub returns-clause-source : goal.returns-clause-source
-returns-clause-source g c =
-    λ h. only_source (map (λ w. w.now) c.args.words.now) (g.R.Source.fault_count c.args.script.now) (g.R.Source.fault_count c.run_command-ending.new.script) (g.R.Source.left c.args.script.now) (ending_of c.run_command-ending.result) c.print_ending-sent.result c.run_command-ending.ensures.cause (sym c.status.ensures ∙ h)
-
-pub returns-clause-source_rose : goal.returns-clause-source_rose
-returns-clause-source_rose g c =
-    λ h. c.status.ensures ∙ source_rose (map (λ w. w.now) c.args.words.now) (g.R.Source.fault_count c.args.script.now) (g.R.Source.fault_count c.run_command-ending.new.script) (g.R.Source.left c.args.script.now) (ending_of c.run_command-ending.result) c.print_ending-sent.result c.run_command-ending.ensures.cause h
-
-pub returns-clause-bad_script : goal.returns-clause-bad_script
-returns-clause-bad_script g c =
-    λ h. only_bad_script (map (λ w. w.now) c.args.words.now) (g.R.Source.fault_count c.args.script.now) (g.R.Source.fault_count c.run_command-ending.new.script) (g.R.Source.left c.args.script.now) (ending_of c.run_command-ending.result) c.print_ending-sent.result c.run_command-ending.ensures.cause (sym c.status.ensures ∙ h)
-
-pub returns-clause-sink : goal.returns-clause-sink
-returns-clause-sink g c =
-    λ h. only_sink (g.K.Sink.fault_count c.args.out.now) (g.K.Sink.fault_count c.print_ending-sent.new.out) (ending_of c.run_command-ending.result) c.print_ending-sent.result c.print_ending-sent.ensures.counts (sym c.status.ensures ∙ h)
-
-pub returns-clause-sink_rose : goal.returns-clause-sink_rose
-returns-clause-sink_rose g c =
-    λ h. subst (λ n. (0 < n) × (n ≤ 4)) (sym c.status.ensures)
-    (sink_rose (g.K.Sink.fault_count c.args.out.now) (g.K.Sink.fault_count c.print_ending-sent.new.out) (ending_of c.run_command-ending.result) c.print_ending-sent.result c.print_ending-sent.ensures.counts h)
+pub returns : goal.returns
+returns g c = record {
+  headline = record {
+    ending = ending_of c.run_task-run.result.ending;
+    sent = c.finish.ensures.finished.sent;
+    cause = subst (λ (d : DeviceState). IsCause (task_of (map (λ w. w.now) c.args.words.now)) (g.R.Source.fault_count c.args.script.now) (g.R.Source.fault_count c.run_task-run.new.source) (g.R.Source.left c.args.script.now) (device_of g.D.Device.pages g.D.Device.clock g.D.Device.fault_count g.D.Device.story c.args.device) d c.finish.result.acks.items (ending_of c.run_task-run.result.ending)) (sym (ap (device_of g.D.Device.pages g.D.Device.clock g.D.Device.fault_count g.D.Device.story) c.finish.ensures.device))
+        (subst (λ (a : List ℕ). IsCause (task_of (map (λ w. w.now) c.args.words.now)) (g.R.Source.fault_count c.args.script.now) (g.R.Source.fault_count c.run_task-run.new.source) (g.R.Source.left c.args.script.now) (device_of g.D.Device.pages g.D.Device.clock g.D.Device.fault_count g.D.Device.story c.args.device) (device_of g.D.Device.pages g.D.Device.clock g.D.Device.fault_count g.D.Device.story c.run_task-run.result.device) a (ending_of c.run_task-run.result.ending)) (sym (ap (λ l. l.items) c.finish.ensures.acks))
+        (subst (λ (t : Option Task). IsCause t (g.R.Source.fault_count c.args.script.now) (g.R.Source.fault_count c.run_task-run.new.source) (g.R.Source.left c.args.script.now) (device_of g.D.Device.pages g.D.Device.clock g.D.Device.fault_count g.D.Device.story c.args.device) (device_of g.D.Device.pages g.D.Device.clock g.D.Device.fault_count g.D.Device.story c.run_task-run.result.device) c.run_task-run.result.acks.items (ending_of c.run_task-run.result.ending)) c.task_of.ensures c.run_task-run.ensures.cause));
+    counts = c.finish.ensures.finished.counts;
+    told = c.finish.ensures.finished.told;
+    is_status = c.finish.ensures.finished.is_status;
+    outcomes = c.finish.ensures.finished.outcomes;
+  };
+}

@@ -35,5 +35,5 @@ pub returns-in-Err-read_all-clause-refused : goal.returns-in-Err-read_all-clause
 returns-in-Err-read_all-clause-refused g c s is calm =
     subst (λ (fault : OpenFault). IsRefusal (g.D.Device.pages c.args.device.now) fault (bytes_of s)) (sym c.opening_fault.ensures)
     (log-refused (g.D.Device.pages c.args.device.now) c.in-Ok.indexes (g.D.Device.story c.args.device.now) (g.D.Device.story c.read_superblock.new.device) (g.D.Device.story c.read_directory.new.device)
-      (record { first = c.in-Ok.ensures.reads; second = c.in_default.ensures.reads; formatted = c.in-Ok.ensures.formatted; closed = c.in_default.ensures.closed }) s is calm
-      c.in-Err-read_all.fault c.in-Err-read_all.ensures.bad)
+    (record { first = c.in-Ok.ensures.reads; second = c.in_default.ensures.reads; formatted = c.in-Ok.ensures.formatted; closed = c.in_default.ensures.closed }) s is calm
+    c.in-Err-read_all.fault c.in-Err-read_all.ensures.bad)

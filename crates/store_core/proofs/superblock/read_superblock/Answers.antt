@@ -23,7 +23,7 @@ returns-in-Some-clause-formatted g c s is calm =
     let sixteen : length c.read.new.buf ≡ 16 = omega arith in
     let pages : c.pages.result ≡ g.D.Device.pages c.args.device.now = c.pages.ensures ∙ c.in-Ok.ensures.same_pages in
     let both = formatted-read s c.read.new.buf sixteen (c.in-Ok.ensures.bytes s is) calm (g.D.Device.pages c.args.device.now)
-      (subst (λ (n : ℕ). IsSuperblock n c.read.new.buf) pages c.in-Some.ensures.some.0) in
+    (subst (λ (n : ℕ). IsSuperblock n c.read.new.buf) pages c.in-Some.ensures.some.0) in
     (both.0, both.1 ∙ c.in-Some.ensures.some.1)
 
 pub returns-in-None-clause-refused : goal.returns-in-None-clause-refused

@@ -10,6 +10,6 @@ pub returns-in-Ok-rows_of-clause-stands : goal.returns-in-Ok-rows_of-clause-stan
 returns-in-Ok-rows_of-clause-stands g c =
     subst (λ (s : StoreState). OpensFrom (device_of g.D.Device.pages g.D.Device.clock g.D.Device.fault_count g.D.Device.story c.args.device) s) (sym c.of_image.ensures)
     (opens-from (device_of g.D.Device.pages g.D.Device.clock g.D.Device.fault_count g.D.Device.story c.args.device)
-      (device_of g.D.Device.pages g.D.Device.clock g.D.Device.fault_count g.D.Device.story c.read_image.new.device)
-      c.in-Ok.image.indexes c.in-Ok-rows_of.rows c.in-Ok.image.log c.in-Ok.image.records.items
-      c.in-Ok.ensures.same_pages (λ t is. g.met.D.Device.clock_told _ t is) (c.in-Ok-rows_of.ensures ∙ ap (replayed empty) c.deref.ensures.value) c.in-Ok.ensures.reads c.in-Ok.ensures.read)
+    (device_of g.D.Device.pages g.D.Device.clock g.D.Device.fault_count g.D.Device.story c.read_image.new.device)
+    c.in-Ok.image.indexes c.in-Ok-rows_of.rows c.in-Ok.image.log c.in-Ok.image.records.items
+    c.in-Ok.ensures.same_pages (λ t is. g.met.D.Device.clock_told _ t is) (c.in-Ok-rows_of.ensures ∙ ap (replayed empty) c.deref.ensures.value) c.in-Ok.ensures.reads c.in-Ok.ensures.read)

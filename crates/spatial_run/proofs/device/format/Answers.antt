@@ -1,0 +1,20 @@
+use Rattle.std.proofs.Common.{ap, sym, subst, ◌∙◌}
+use Rattle.store_core.specs.Stores.{device_of}
+use Rattle.spatial_run.specs.Parts.{IsFormatEnd}
+use Rattle.spatial_run.specs.Views.{ending_of}
+use Rattle.spatial_run.proofs.Ends.{format-done}
+use Rattle.spatial_run.proofs.device.format.Goals as goal
+
+pub returns-in-Ok-clause-end : goal.returns-in-Ok-clause-end
+returns-in-Ok-clause-end g c =
+    subst (λ d. IsFormatEnd c.args.indexes (device_of g.D.Device.pages g.D.Device.clock g.D.Device.fault_count g.D.Device.story c.args.device) (device_of g.D.Device.pages g.D.Device.clock g.D.Device.fault_count g.D.Device.story d) c.without_commands.result.acks.items (ending_of c.without_commands.result.ending)) (sym c.without_commands.ensures.device)
+    (format-done c.args.indexes (device_of g.D.Device.pages g.D.Device.clock g.D.Device.fault_count g.D.Device.story c.args.device) (device_of g.D.Device.pages g.D.Device.clock g.D.Device.fault_count g.D.Device.story c.format_dev.new.device) c.without_commands.result.acks.items (ending_of c.without_commands.result.ending)
+    c.pages-pages.result (ap ending_of c.without_commands.ensures.ending) c.pages-pages.ensures c.without_commands.ensures.acks
+    (record {
+      formats = c.in-Ok.ensures.did;
+      formatted = c.in-Ok.ensures.formatted;
+      any_moment = c.in-Ok.ensures.any_moment;
+      over_none = c.in-Ok.ensures.over_none;
+      same_pages = c.in-Ok.ensures.same_pages;
+      cause = c.in-Ok.ensures.cause;
+    }))

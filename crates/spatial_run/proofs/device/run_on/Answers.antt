@@ -1,0 +1,29 @@
+use Rattle.std.proofs.Common.{◌≡◌, ◌<◌, ◌^◌, List, [], length, ap, refl, sym, subst, ◌∙◌, arith, map}
+use Rattle.std.proofs.lemmas.List.{length-map}
+use Rattle.script_lang.specs.Views.{command_of, commands_of, phases_of}
+use Rattle.script_lang.specs.declared.commands.Command as rust
+use Rattle.store_machine.specs.Standing.{DeviceState, StoreState}
+use Rattle.store_core.specs.Stores.{state_of, device_of}
+use Rattle.table_model.specs.Record.{RunRecord}
+use Rattle.spatial_run.specs.Endings as model
+use Rattle.spatial_run.specs.Endings.{Ending}
+use Rattle.spatial_run.specs.Steps.{IsPlain, MadeAll}
+use Rattle.spatial_run.specs.Parts.{IsStoreEnd, StoreRan}
+use Rattle.spatial_run.specs.Views.{ending_of, outcomes_of}
+use Rattle.spatial_run.proofs.Ends.{store-ran, store-plain}
+use Rattle.spatial_run.proofs.device.run_on.Goals as goal
+
+pub returns-in-Ok-clause-end : goal.returns-in-Ok-clause-end
+returns-in-Ok-clause-end g c =
+    subst (λ (e : Ending). IsStoreEnd (phases_of c.args.script) (state_of g.D.Device.pages g.D.Device.clock g.D.Device.fault_count g.D.Device.story c.args.store) (device_of g.D.Device.pages g.D.Device.clock g.D.Device.fault_count g.D.Device.story c.into_dev-device.result.0) c.into_dev-device.result.1.items e) (sym c.ran.ensures) (
+      refl,
+      store-ran c.args.script.setup.items c.as_slice.result.now c.in-Ok.setup.items (state_of g.D.Device.pages g.D.Device.clock g.D.Device.fault_count g.D.Device.story c.args.store) (state_of g.D.Device.pages g.D.Device.clock g.D.Device.fault_count g.D.Device.story c.run_commands.new.store) (device_of g.D.Device.pages g.D.Device.clock g.D.Device.fault_count g.D.Device.story c.into_dev-device.result.0) c.into_dev-device.result.1.items (phases_of c.args.script) refl
+          c.as_slice.ensures c.in-Ok.ensures.few c.in-Ok.ensures.made (sym c.into_dev-device.ensures.device) (sym c.into_dev-device.ensures.acks),
+    )
+
+pub returns-in-Ok-clause-plain : goal.returns-in-Ok-clause-plain
+returns-in-Ok-clause-plain g c =
+    subst (λ (e : Ending). IsPlain e) (sym c.ran.ensures)
+    (store-plain (phases_of c.args.script) (record { setup = outcomes_of c.in-Ok.setup.items; lanes = []; after = [] }) (state_of g.D.Device.pages g.D.Device.clock g.D.Device.fault_count g.D.Device.story c.args.store) c.requires.opened.0 (device_of g.D.Device.pages g.D.Device.clock g.D.Device.fault_count g.D.Device.story c.into_dev-device.result.0) c.into_dev-device.result.1.items c.requires.alone c.requires.opened.1
+    (store-ran c.args.script.setup.items c.as_slice.result.now c.in-Ok.setup.items (state_of g.D.Device.pages g.D.Device.clock g.D.Device.fault_count g.D.Device.story c.args.store) (state_of g.D.Device.pages g.D.Device.clock g.D.Device.fault_count g.D.Device.story c.run_commands.new.store) (device_of g.D.Device.pages g.D.Device.clock g.D.Device.fault_count g.D.Device.story c.into_dev-device.result.0) c.into_dev-device.result.1.items (phases_of c.args.script) refl
+    c.as_slice.ensures c.in-Ok.ensures.few c.in-Ok.ensures.made (sym c.into_dev-device.ensures.device) (sym c.into_dev-device.ensures.acks)))

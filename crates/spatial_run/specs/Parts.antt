@@ -1,0 +1,91 @@
+-- How the parts of a task end. No public contract needs this file.
+use Rattle.std.specs.Prelude.{◌≡◌, ◌⊎◌, ◌<◌, ◌^◌, ℕ, length, List, [], Option, Result, Ok, Err}
+use Rattle.dev_model.specs.Counts.{Rose, Counts}
+use Rattle.dev_model.specs.Streams.{Says}
+use Rattle.dev_model.specs.declared.streams.Failed.{Failed}
+use Rattle.table_model.specs.Commands.{Command}
+use Rattle.table_model.specs.Phases.{Phases}
+use Rattle.table_model.specs.Record.{RunRecord}
+use Rattle.script_lang.specs.Scripts as script
+use Rattle.store_machine.specs.Standing.{DeviceState, StoreState}
+use Rattle.spatial_run.specs.OnDevice.{Formatting, OnlyOpened, NotOpened, RanOn}
+use Rattle.spatial_run.specs.Endings.{Ending, bad_words, source_fault, bad_line, too_long, no_memory, format_failed, formatted, not_opened, ran, IsScript, ending_text, status_of, HandsOut}
+use Rattle.spatial_run.specs.Steps.{MadeAll}
+
+-- the script was read, or the call ends so
+abbrev pub IsReadEnd : (old new : ℕ) → Option (List ℕ) → Result (Phases Command) Ending → Type 0
+IsReadEnd old new left (Ok s) = (new ≡ old) × IsScript left (Ok s)
+IsReadEnd old new left (Err bad_words) = ⊥
+IsReadEnd old new left (Err source_fault) = Rose old new
+IsReadEnd old new left (Err (bad_line n)) = (new ≡ old) × IsScript left (Err (script.bad_line n))
+IsReadEnd old new left (Err too_long) = (new ≡ old) × IsScript left (Err script.too_long)
+IsReadEnd old new left (Err no_memory) = new ≡ old
+IsReadEnd old new left (Err format_failed) = ⊥
+IsReadEnd old new left (Err (formatted pages)) = ⊥
+IsReadEnd old new left (Err (not_opened fault)) = ⊥
+IsReadEnd old new left (Err (ran s r)) = ⊥
+
+-- a script ran on a store that was opened
+pub record StoreRan (opened : StoreState) (new : DeviceState) (acks : List ℕ) (s : Phases Command) (r : RunRecord) : Type 0 where
+  pub ended : StoreState
+  pub made : MadeAll opened ended s.setup r.setup
+  pub device_is : ended.device ≡ new
+  pub acks_are : ended.acks ≡ acks
+  pub alone : (r.lanes ≡ []) × (r.after ≡ [])
+  pub few : length r.setup < 2 ^ 63
+
+abbrev pub IsStoreEnd : Phases Command → StoreState → DeviceState → List ℕ → Ending → Type 0
+IsStoreEnd s opened new acks bad_words = ⊥
+IsStoreEnd s opened new acks source_fault = ⊥
+IsStoreEnd s opened new acks (bad_line n) = ⊥
+IsStoreEnd s opened new acks too_long = ⊥
+IsStoreEnd s opened new acks no_memory = (opened.device ≡ new) × (opened.acks ≡ acks)
+IsStoreEnd s opened new acks format_failed = ⊥
+IsStoreEnd s opened new acks (formatted pages) = ⊥
+IsStoreEnd s opened new acks (not_opened fault) = ⊥
+IsStoreEnd s opened new acks (ran t r) = (t ≡ s) × StoreRan opened new acks s r
+
+-- a script ran on the store of a device, or the store was not opened, or memory was refused
+abbrev pub IsRunEnd : Phases Command → (device new : DeviceState) → List ℕ → Ending → Type 0
+IsRunEnd s device new acks bad_words = ⊥
+IsRunEnd s device new acks source_fault = ⊥
+IsRunEnd s device new acks (bad_line n) = ⊥
+IsRunEnd s device new acks too_long = ⊥
+IsRunEnd s device new acks no_memory = OnlyOpened device new × (acks ≡ [])
+IsRunEnd s device new acks format_failed = ⊥
+IsRunEnd s device new acks (formatted pages) = ⊥
+IsRunEnd s device new acks (not_opened fault) = NotOpened device new fault × (acks ≡ [])
+IsRunEnd s device new acks (ran t r) = (t ≡ s) × RanOn device new acks s r
+
+-- a device could not be formatted
+pub record FormatStopped (indexes : ℕ) (old new : DeviceState) (acks : List ℕ) (e : Ending) : Type 0 where
+  pub ending : e ≡ format_failed
+  pub failed : Failed
+  pub formatting : Formatting indexes old new (Err failed)
+  pub acks_are : acks ≡ []
+
+-- a device was formatted
+pub record FormatDone (indexes : ℕ) (old new : DeviceState) (acks : List ℕ) (e : Ending) : Type 0 where
+  pub ending : e ≡ formatted new.pages
+  pub formatting : Formatting indexes old new (Ok tt)
+  pub acks_are : acks ≡ []
+
+abbrev pub IsFormatEnd : (indexes : ℕ) → (old new : DeviceState) → List ℕ → Ending → Type 0
+IsFormatEnd indexes old new acks e = FormatDone indexes old new acks e ⊎ FormatStopped indexes old new acks e
+
+-- a device was formatted, and then a script ran
+pub record FreshRan (indexes : ℕ) (s : Phases Command) (old new : DeviceState) (acks : List ℕ) (e : Ending) : Type 0 where
+  pub device : DeviceState
+  pub formatting : Formatting indexes old device (Ok tt)
+  pub end : IsRunEnd s device new acks e
+
+abbrev pub IsFreshEnd : (indexes : ℕ) → Phases Command → (old new : DeviceState) → List ℕ → Ending → Type 0
+IsFreshEnd indexes s old new acks e = FreshRan indexes s old new acks e ⊎ FormatStopped indexes old new acks e
+
+-- an ending was printed
+pub record IsFinished (e : Ending) (sink_old sink_new : ℕ) (before after : Option (List ℕ)) (status : ℕ) (r : RunRecord) : Type 0 where
+  pub sent : Result (Unit {0}) Failed
+  pub counts : Counts sink_old sink_new sent
+  pub told : Says before after (ending_text e) sent
+  pub is_status : status ≡ status_of e sent
+  pub outcomes : HandsOut e r

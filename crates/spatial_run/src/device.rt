@@ -1,0 +1,195 @@
+// A task on a device: a format, and a script on the store that is there.
+ghost use Rattle.std.specs.Prelude.{◌≡◌, ◌≤◌, [], Some, Ok, Err, IfOk, IfErr};
+ghost use Rattle.std.specs.Option.{option_map};
+ghost use Rattle.wal_log.specs.declared.places.TheConstants.{LOG_PAGES};
+ghost use Rattle.script_lang.specs.Views.{phases_of};
+ghost use Rattle.store_machine.specs.Standing.{DeviceState, IsReady, OpensFrom};
+ghost use Rattle.store_core.specs.Stores.{state_of, device_of};
+ghost use Rattle.spatial_run.specs.Tasks as tasks;
+ghost use Rattle.spatial_run.specs.Endings.{IsCause};
+ghost use Rattle.spatial_run.specs.Endings as model;
+ghost use Rattle.spatial_run.specs.Views.{task_as, ending_of, outcomes_of};
+ghost use Rattle.spatial_run.specs.Steps.{IsPlain, IsSetupAlone};
+ghost use Rattle.spatial_run.specs.Parts.{IsFormatEnd, IsFreshEnd, IsRunEnd, IsStoreEnd, IsReadEnd};
+
+use crate::ending::Ending;
+use crate::record::{LaneOutcomes, OutcomeList, RunRecord};
+use crate::running::run_commands;
+use crate::task::Task;
+use dev_model::{Device, Source};
+use device_format::format_dev;
+use geo_base::{IndexSet, ItemList};
+use script_lang::{Script, ScriptFault, read_script};
+use std::alloc::Global;
+use store_core::Store;
+
+/// What a task leaves: how it ended, the device, and the acks.
+#[derive(Drop)]
+pub(crate) struct Run<D: Device> {
+    pub ending: Ending,
+    pub device: D,
+    pub acks: ItemList<u64>,
+}
+
+// A run in which no command ran.
+fn without_commands<D: Device>(alloc: Global, ending: Ending, device: D) -> Run<D>
+    ensures ending { result.ending ≡ ending }
+    ensures device { result.device ≡ device }
+    ensures acks { result.acks.items ≡ [] }
+{
+    Run {
+        ending,
+        device,
+        acks: ItemList::new(alloc),
+    }
+}
+
+// The ending of a script whose commands are all in the setup.
+fn ran(alloc: Global, script: Script, setup: OutcomeList) -> Ending
+    ensures { ending_of result ≡ model.ran (phases_of script) (record { setup = outcomes_of setup.items; lanes = []; after = [] }) }
+{
+    Ending::Ran(
+        script,
+        RunRecord {
+            setup,
+            lanes: LaneOutcomes::new(alloc),
+            after: OutcomeList::new(alloc),
+        },
+    )
+}
+
+// The script on a store that was opened.
+fn run_on<D: Device>(alloc: Global, script: Script, store: Store<D>) -> Run<D>
+    requires ready { IsReady (state_of D.pages D.clock D.fault_count D.story store) }
+    requires opened { (from : DeviceState) × OpensFrom from (state_of D.pages D.clock D.fault_count D.story store) }
+    requires alone { IsSetupAlone (phases_of script) }
+    ensures end { IsStoreEnd (phases_of script) (state_of D.pages D.clock D.fault_count D.story store) (device_of D.pages D.clock D.fault_count D.story result.device) result.acks.items (ending_of result.ending) }
+    ensures plain { IsPlain (ending_of result.ending) }
+{
+    let mut store = store;
+    match run_commands(alloc, &mut store, script.setup.as_slice()) {
+        Ok(setup) => {
+            let (device, acks) = store.into_dev();
+            Run {
+                ending: ran(alloc, script, setup),
+                device,
+                acks,
+            }
+        }
+        Err(_) => {
+            let (device, acks) = store.into_dev();
+            Run {
+                ending: Ending::NoMemory,
+                device,
+                acks,
+            }
+        }
+    }
+}
+
+// Opens the store that is on the device, and runs the script on it.
+fn run_script<D: Device>(alloc: Global, script: Script, device: D) -> Run<D>
+    requires pages { LOG_PAGES ≤ D.pages device }
+    requires alone { IsSetupAlone (phases_of script) }
+    ensures end { IsRunEnd (phases_of script) (device_of D.pages D.clock D.fault_count D.story device) (device_of D.pages D.clock D.fault_count D.story result.device) result.acks.items (ending_of result.ending) }
+    ensures plain { IsPlain (ending_of result.ending) }
+{
+    match Store::open(alloc, device) {
+        Ok(store) => run_on(alloc, script, store),
+        Err((device, fault)) => without_commands(alloc, Ending::NotOpened(fault), device),
+    }
+}
+
+// Makes the device an empty store.
+fn format<D: Device>(alloc: Global, indexes: IndexSet, device: D) -> Run<D>
+    requires pages { LOG_PAGES ≤ D.pages device }
+    ensures end { IsFormatEnd indexes (device_of D.pages D.clock D.fault_count D.story device) (device_of D.pages D.clock D.fault_count D.story result.device) result.acks.items (ending_of result.ending) }
+    ensures plain { IsPlain (ending_of result.ending) }
+{
+    let mut device = device;
+    match format_dev(&mut device, indexes) {
+        Ok(()) => {
+            let pages = device.pages();
+            without_commands(alloc, Ending::Formatted(pages), device)
+        }
+        Err(_) => without_commands(alloc, Ending::FormatFailed, device),
+    }
+}
+
+// Makes the device an empty store, and runs the script on it.
+fn run_formatted<D: Device>(alloc: Global, indexes: IndexSet, script: Script, device: D) -> Run<D>
+    requires pages { LOG_PAGES ≤ D.pages device }
+    requires alone { IsSetupAlone (phases_of script) }
+    ensures end { IsFreshEnd indexes (phases_of script) (device_of D.pages D.clock D.fault_count D.story device) (device_of D.pages D.clock D.fault_count D.story result.device) result.acks.items (ending_of result.ending) }
+    ensures plain { IsPlain (ending_of result.ending) }
+{
+    let mut device = device;
+    match format_dev(&mut device, indexes) {
+        Ok(()) => run_script(alloc, script, device),
+        Err(_) => without_commands(alloc, Ending::FormatFailed, device),
+    }
+}
+
+// Reads the script to its end.
+fn read<R: Source>(alloc: Global, source: &mut R) -> Result<Script, Ending>
+    ensures script { IfOk result (λ script. IsReadEnd (R.fault_count source.old) (R.fault_count source.new) (R.left source.old) (Ok (phases_of script))) }
+    ensures alone { IfOk result (λ script. IsSetupAlone (phases_of script)) }
+    ensures ending { IfErr result (λ ending. IsReadEnd (R.fault_count source.old) (R.fault_count source.new) (R.left source.old) (Err (ending_of ending))) }
+    ensures plain { IfErr result (λ ending. IsPlain (ending_of ending)) }
+{
+    match read_script(alloc, source) {
+        Ok(script) => Ok(script),
+        Err(ScriptFault::Source) => Err(Ending::SourceFault),
+        Err(ScriptFault::BadLine(line)) => Err(Ending::BadLine(line)),
+        Err(ScriptFault::TooLong) => Err(Ending::TooLong),
+        Err(ScriptFault::OutOfMemory) => Err(Ending::NoMemory),
+    }
+}
+
+// Runs a script on the store that is there.
+fn run_serial<R: Source, D: Device>(alloc: Global, source: &mut R, device: D) -> Run<D>
+    requires pages { LOG_PAGES ≤ D.pages device }
+    ensures cause { IsCause (Some tasks.serial) (R.fault_count source.old) (R.fault_count source.new) (R.left source.old) (device_of D.pages D.clock D.fault_count D.story device) (device_of D.pages D.clock D.fault_count D.story result.device) result.acks.items (ending_of result.ending) }
+    ensures plain { IsPlain (ending_of result.ending) }
+{
+    match read(alloc, source) {
+        Ok(script) => run_script(alloc, script, device),
+        Err(ending) => without_commands(alloc, ending, device),
+    }
+}
+
+// Makes the device an empty store, and runs a script on it.
+fn run_fresh<R: Source, D: Device>(
+    alloc: Global,
+    indexes: IndexSet,
+    source: &mut R,
+    device: D,
+) -> Run<D>
+    requires pages { LOG_PAGES ≤ D.pages device }
+    ensures cause { IsCause (Some (tasks.fresh indexes)) (R.fault_count source.old) (R.fault_count source.new) (R.left source.old) (device_of D.pages D.clock D.fault_count D.story device) (device_of D.pages D.clock D.fault_count D.story result.device) result.acks.items (ending_of result.ending) }
+    ensures plain { IsPlain (ending_of result.ending) }
+{
+    match read(alloc, source) {
+        Ok(script) => run_formatted(alloc, indexes, script, device),
+        Err(ending) => without_commands(alloc, ending, device),
+    }
+}
+
+/// Does the task, and prints nothing.
+pub(crate) fn run_task<R: Source, D: Device>(
+    alloc: Global,
+    task: Option<Task>,
+    source: &mut R,
+    device: D,
+) -> Run<D>
+    requires pages { LOG_PAGES ≤ D.pages device }
+    ensures cause { IsCause (option_map task_as task) (R.fault_count source.old) (R.fault_count source.new) (R.left source.old) (device_of D.pages D.clock D.fault_count D.story device) (device_of D.pages D.clock D.fault_count D.story result.device) result.acks.items (ending_of result.ending) }
+    ensures plain { IsPlain (ending_of result.ending) }
+{
+    match &task {
+        None => without_commands(alloc, Ending::BadWords, device),
+        Some(Task::Format(indexes)) => format(alloc, *indexes, device),
+        Some(Task::Serial) => run_serial(alloc, source, device),
+        Some(Task::Fresh(indexes)) => run_fresh(alloc, *indexes, source, device),
+    }
+}
