@@ -7,6 +7,8 @@ mod outcomes;
 mod record;
 mod running;
 mod task;
+#[cfg(test)]
+mod tests;
 mod top;
 
 pub use record::{LaneOutcomes, Outcome, OutcomeList, RunRecord};
