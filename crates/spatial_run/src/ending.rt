@@ -84,11 +84,11 @@ fn status_of_fault(fault: OpenFault, is_cut_off: bool) -> u8
     }
 }
 
-fn status_of_run(record: &RunRecord, is_cut_off: bool) -> u8
-    requires { IsSetupAlone (record_of record.now) }
-    ensures { (sent : Result (Unit {0}) Failed) → is_err sent ≡ is_cut_off → result ≡ run_status (record_of record.now) sent }
+fn status_of_run(outcomes: &RunRecord, is_cut_off: bool) -> u8
+    requires { IsSetupAlone (record_of outcomes.now) }
+    ensures { (sent : Result (Unit {0}) Failed) → is_err sent ≡ is_cut_off → result ≡ run_status (record_of outcomes.now) sent }
 {
-    let refusals = refusals_of(record.setup.as_slice());
+    let refusals = refusals_of(outcomes.setup.as_slice());
     if refusals.damaged {
         6
     } else if refusals.device {

@@ -2,6 +2,7 @@
 #![tactic(auto)]
 
 mod device;
+mod ended;
 mod ending;
 mod outcomes;
 mod record;
@@ -11,5 +12,6 @@ mod task;
 mod tests;
 mod top;
 
+pub use ended::Ended;
 pub use record::{LaneOutcomes, Outcome, OutcomeList, RunRecord};
-pub use top::{Ended, run_serial, run_top};
+pub use top::{run_serial, run_top};

@@ -20,7 +20,7 @@ use Rattle.store_machine.specs.declared.events.Wrote.{Wrote}
 use Rattle.store_machine.specs.declared.events.Refusal.{Refusal}
 use Rattle.store_machine.specs.declared.events.Refusal.TheVariants.{Fault, Stopped, Full, Again, NoIndex, Damaged, OutOfMemory}
 use Rattle.store_machine.specs.declared.events.Action.TheVariants.{Write}
-use Rattle.store_core.specs.Stores.{RefusesNow, Logged, LogFails, WasLogged, WasNotLogged}
+use Rattle.store_core.specs.Logging.{RefusesNow, Logged, LogFails, WasLogged, WasNotLogged}
 use Rattle.store_core.specs.Restored.{restored}
 use Rattle.store_core.proofs.Entries.{remove-absent, restored-put}
 use Rattle.store_core.proofs.Answering.{nothing}

@@ -1,4 +1,5 @@
 pub mod Entries
+pub mod Logging
 pub mod Openings
 pub mod Read
 pub mod Restored

@@ -12,7 +12,8 @@ ghost use Rattle.store_machine.specs.declared.events.Action.{Action};
 ghost use Rattle.store_machine.specs.declared.events.Refusal.TheVariants.{Fault};
 ghost use Rattle.store_core.specs.Entries.{place_in};
 ghost use Rattle.store_core.specs.Restored.{restored};
-ghost use Rattle.store_core.specs.Stores.{state_of, RefusesNow, Logged, LogFails, WasLogged, WasNotLogged};
+ghost use Rattle.store_core.specs.Stores.{state_of};
+ghost use Rattle.store_core.specs.Logging.{RefusesNow, Logged, LogFails, WasLogged, WasNotLogged};
 
 use crate::store::Store;
 use dev_model::{Device, Failed};

@@ -4,7 +4,8 @@ use Rattle.table_model.specs.Table.{Table}
 use Rattle.store_machine.specs.Standing.{StoreState}
 use Rattle.store_core.specs.Entries.{place_in}
 use Rattle.store_core.specs.Restored.{restored}
-use Rattle.store_core.specs.Stores.{state_of, Logged, LogFails}
+use Rattle.store_core.specs.Stores.{state_of}
+use Rattle.store_core.specs.Logging.{Logged, LogFails}
 use Rattle.wal_log.specs.declared.records.LogOp.{LogOp}
 use Rattle.store_core.proofs.store.Store.log_put.Goals as goal
 
