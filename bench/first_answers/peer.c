@@ -1,4 +1,4 @@
-/* The same job as `spatial serial` for scripts of `region` lines, written plainly: the script is read to its end,
+/* The same job as `spatial FILE PAGES serial` does for scripts of `region` lines on an empty store, written plainly: the script is read to its end,
  * then each region is answered over the empty table, and the answers are printed. Each rule of a line is tested. */
 #include <stdio.h>
 #include <stdlib.h>
