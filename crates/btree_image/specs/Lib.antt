@@ -6,3 +6,5 @@ pub mod Damage
 pub mod Asked
 pub mod Steps
 pub mod TestRows
+pub mod Visited
+pub mod Walks
