@@ -12,3 +12,6 @@ pub mod Told
 pub mod Trail
 pub mod Loading
 pub mod Lent
+pub mod Along
+pub mod Places
+pub mod Shown

@@ -126,3 +126,7 @@ module _ {T K : Type 0} (l : Layout T K) (list : List T) where
 -- each run may be narrowed down for its range
 abbrev pub AllLead : {T K : Type 0} → Layout T K → List T → ℕ → List (K × K) → List Run → Type 0
 AllLead {K = K} l list level ranges runs = (i : ℕ) (range : K × K) (run : Run) → i < length runs → Leads l list level (get_or ranges i range) (get_or runs i run)
+
+-- each run is its range's
+abbrev pub AllRuns : {T K : Type 0} → Layout T K → List T → ℕ → List (K × K) → List Run → Type 0
+AllRuns {K = K} l list level ranges runs = (i : ℕ) (range : K × K) (run : Run) → i < length runs → get_or runs i run ≡ run_of l list level (get_or ranges i range)

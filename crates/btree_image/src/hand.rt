@@ -4,7 +4,6 @@ ghost use Rattle.std.specs.Prelude.{◌≡◌, ℕ, suc, zero, [], ◌∷◌, �
 ghost use Rattle.page_codec.specs.Page.{IsPage, row_count};
 ghost use Rattle.btree_image.specs.Shape.{level_size, IsPlace};
 ghost use Rattle.btree_image.specs.Image.{shape_of, page_number, level_kind, AreLent};
-ghost use Rattle.btree_image.specs.Damage.{IsTreePage};
 ghost use Rattle.btree_image.specs.Walks.{GoesOn, fault_of, IsInHand, Holds, places_in};
 
 use crate::TreeRow;
@@ -26,7 +25,7 @@ fn count_at<T: TreeRow>(page: &[u8; PAGE_BYTES], level: u8) -> Result<u16, BadPa
     ensures page { OnOk result (IsPage (level_kind T.layout level) level page.now) }
     ensures count { IfOk result (λ count. count ≡ row_count page.now) }
     ensures some { IfOk result (λ count. 0 < level → 0 < count) }
-    ensures bad { OnErr result ((rows : ℕ) → IsTreePage T.layout rows level page.now → ⊥) }
+    ensures bad { OnErr result (IsPage (level_kind T.layout level) level page.now → (0 < level) × (row_count page.now ≡ 0)) }
 {
     if level == 0 {
         return open_page(page, T::LEAF, 0);

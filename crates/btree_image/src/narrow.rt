@@ -1,12 +1,13 @@
 //! A level above the leaves: its pages are read from left to right, and narrow down the runs of the ranges.
 
-ghost use Rattle.std.specs.Prelude.{◌≡◌, ℕ, suc, [], ◌+◌, ◌-◌, ◌*◌, ◌^◌, ◌<◌, ◌≤◌, min, List, length, map, slice_index_or, All, OnOk, IfOk, if◌then◌else◌};
+ghost use Rattle.std.specs.Prelude.{◌≡◌, ◌≢◌, ℕ, suc, [], ◌+◌, ◌-◌, ◌*◌, ◌^◌, ◌<◌, ◌≤◌, min, List, length, map, slice_index_or, All, OnOk, IfOk, if◌then◌else◌};
+ghost use Rattle.std.specs.declared.cmp.Ordering.TheVariants.{Greater};
 ghost use Rattle.page_codec.specs.Page.{IsPage, row_count, rows_on, most_rows};
 ghost use Rattle.btree_image.specs.Shape.{level_size, IsPlace};
 ghost use Rattle.btree_image.specs.Image.{shape_of, page_number, level_kind, AreLent, IsShown};
 ghost use Rattle.btree_image.specs.Steps.{reaches, IsLastUpTo};
 ghost use Rattle.btree_image.specs.Visited.{AreRanges};
-ghost use Rattle.btree_image.specs.Walks.{GoesOn, fault_of, IsInHand, Holds, places_in, next_behind, walk, run_of, Leads, AllLead};
+ghost use Rattle.btree_image.specs.Walks.{GoesOn, fault_of, IsInHand, Holds, places_in, next_behind, walk, run_of, Leads, AllLead, AllRuns};
 
 use crate::TreeRow;
 use crate::hand::{InHand, reach};
@@ -89,7 +90,7 @@ fn narrow_run<T: TreeRow, P: Pages>(
     ensures holds { OnOk result (Holds T.layout tree.first tree.rows (P.contents pages.old) (suc below) hand.new) }
     ensures inside { IfOk result (λ new. new.end ≤ level_size (shape_of T.layout tree.rows) below) }
     ensures told { (list : List T) → IsShown T.layout (P.contents pages.old) tree.first tree.rows list → Leads T.layout list (suc below) range.now run
-        → hand.old.next ≤ suc run.first → IfOk result (λ new. Leads T.layout list below range.now new) }
+        → T.layout.order range.now.0 range.now.1 ≢ Greater → hand.old.next ≤ suc run.first → IfOk result (λ new. new ≡ run_of T.layout list below range.now) }
 {
     if run.first >= run.end {
         return Ok(Run { first: 0, end: 0 });
@@ -128,7 +129,7 @@ pub(crate) fn narrow<T: TreeRow, P: Pages>(
     ensures count { length runs.new ≡ length runs.old }
     ensures inside { OnOk result (All (λ run. run.end ≤ level_size (shape_of T.layout tree.rows) below) runs.new) }
     ensures told { (list : List T) → IsShown T.layout (P.contents pages.old) tree.first tree.rows list → AreRanges T.layout.order ranges.now
-        → AllLead T.layout list (suc below) ranges.now runs.old → OnOk result (AllLead T.layout list below ranges.now runs.new) }
+        → AllLead T.layout list (suc below) ranges.now runs.old → OnOk result (AllRuns T.layout list below ranges.now runs.new) }
 {
     hand.next = 0;
     for i in 0..runs.len() {

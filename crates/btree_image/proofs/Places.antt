@@ -1,0 +1,154 @@
+-- The places that a walk over a level reads.
+use Rattle.std.proofs.Common.{◌≡◌, ℕ, zero, suc, ◌+◌, ◌-◌, ◌<◌, ◌≤◌, max, Bool, true, false, List, [], ◌∷◌, ◌++◌, map, drop, length, get_or, arith, refl, sym, ◌∙◌, ap, inl, inr, nat_lt, if◌then◌else◌, append_assoc}
+use Rattle.std.proofs.lemmas.Bool.{cases_lt, lt-ltb, le-ltb}
+use Rattle.std.proofs.lemmas.List.{drop_more, append-nil, map-append}
+use Rattle.btree_image.specs.declared.runs.Run.{Run}
+use Rattle.btree_image.specs.Rows.{Layout}
+use Rattle.btree_image.specs.Image.{numbers, page_number}
+use Rattle.btree_image.specs.Walks.{places_in, next_behind, walk, in_hand}
+
+pub numbers-none : (from n : ℕ) → n ≡ 0 → numbers from n ≡ []
+unfolding numbers
+numbers-none from n e = rw e refl
+
+pub numbers-append : (from m n : ℕ) → numbers from m ++ numbers (from + m) n ≡ numbers from (m + n)
+unfolding numbers
+numbers-append from zero n = let e : from + 0 ≡ from = omega arith in let f : 0 + n ≡ n = omega arith in rw (e, f) refl
+numbers-append from (suc m) n =
+    let e : from + suc m ≡ suc from + m = omega arith in
+    let f : suc m + n ≡ suc (m + n) = omega arith in
+    rw (e, f) (ap (λ xs. from ∷ xs) (numbers-append (suc from) m n))
+
+-- numbers from one on, up to a second and then up to a third
+pub numbers-then : (from m a b : ℕ) → from + m ≡ a → numbers from m ++ numbers a b ≡ numbers from (m + b)
+numbers-then from m a b e = ap (λ x. numbers from m ++ numbers x b) (sym e) ∙ numbers-append from m b
+
+pub behind-some : (next first end : ℕ) → first < end → next_behind next first end ≡ max next end
+behind-some next first end h = rw (lt-ltb first end h) refl
+
+pub behind-none : (next first end : ℕ) → end ≤ first → next_behind next first end ≡ next
+behind-none next first end h = rw (le-ltb first end h) refl
+
+-- the next place doesn't fall, and rises at most to the end
+pub behind-least : (next first end : ℕ) → next ≤ next_behind next first end
+behind-least next first end = elim (cases_lt first end) [
+  | inl some ↦ rw (lt-ltb first end some) (omega arith)
+  | inr none ↦ rw (le-ltb first end none) (omega arith)
+]
+
+pub behind-most : (next first end : ℕ) → next_behind next first end ≤ max next end
+behind-most next first end = elim (cases_lt first end) [
+  | inl some ↦ rw (lt-ltb first end some) (omega arith)
+  | inr none ↦ rw (le-ltb first end none) (omega arith)
+]
+
+-- nothing is left to read up to a place that was passed
+pub places-none : (next first end : ℕ) → end ≤ max first next → places_in next first end ≡ []
+places-none next first end h = numbers-none (max first next) (end - max first next) (omega arith)
+
+pub numbers-one : (number : ℕ → ℕ) (at : ℕ) → map number (numbers at 1) ≡ number at ∷ []
+unfolding numbers
+numbers-one number at = refl
+
+-- a place that was not passed is read, and one that was passed is not
+pub place-one : (number : ℕ → ℕ) (next at : ℕ) → next ≤ at → number at ∷ [] ≡ map number (places_in next at (suc at))
+place-one number next at h =
+    let n : max at next ≡ at = omega arith in
+    let one : suc at - at ≡ 1 = omega arith in
+    sym (ap (map number) (ap (λ x. numbers x (suc at - x)) n ∙ ap (numbers at) one) ∙ numbers-one number at)
+pub place-passed : (number : ℕ → ℕ) (next at : ℕ) → at < next → [] ≡ map number (places_in next at (suc at))
+place-passed number next at h = sym (ap (map number) (places-none next at (suc at) (omega arith)))
+
+-- one place more
+pub places-next : (next first at : ℕ) → first ≤ at → places_in next first at ++ places_in (next_behind next first at) at (suc at) ≡ places_in next first (suc at)
+places-next next first at h = elim (cases_lt at next) [
+  | inl passed ↦
+      rw (places-none next first at (omega arith), places-none (next_behind next first at) at (suc at) (let least = behind-least next first at in omega arith), places-none next first (suc at) (omega arith)) refl
+  | inr here ↦ (
+      let m : ℕ = max first next in
+      let n : max at (next_behind next first at) ≡ at = let most = behind-most next first at in omega arith in
+      let one : suc at - at ≡ 1 = omega arith in
+      let second : places_in (next_behind next first at) at (suc at) ≡ numbers at 1 = ap (λ x. numbers x (suc at - x)) n ∙ ap (numbers at) one in
+      ap (λ xs. places_in next first at ++ xs) second
+      ∙ (numbers-then (max first next) (at - max first next) at 1 (omega arith)
+      ∙ ap (numbers (max first next)) (omega arith)))
+]
+
+-- where no place is left the next one stays
+pub unmoved : (next first end : ℕ) → end ≤ max first next → next_behind next first end ≡ next
+unmoved next first end h = elim (cases_lt first end) [
+  | inl some ↦ let e : max next end ≡ next = omega arith in behind-some next first end some ∙ e
+  | inr none ↦ behind-none next first end none
+]
+
+pub behind-next : (next first at : ℕ) → first ≤ at → max (next_behind next first at) (suc at) ≡ next_behind next first (suc at)
+behind-next next first at h =
+    let least = behind-least next first at in
+    let most = behind-most next first at in
+    let e : max (next_behind next first at) (suc at) ≡ max next (suc at) = omega arith in
+    e ∙ sym (behind-some next first (suc at) (omega arith))
+
+-- the first place of a run, and then all of it
+pub places-all : (next first end : ℕ) → first < end → places_in next first (suc first) ++ places_in (max next (suc first)) first end ≡ places_in next first end
+places-all next first end h = elim (cases_lt first next) [
+  | inl passed ↦ (
+      let same : max next (suc first) ≡ next = omega arith in
+      rw (places-none next first (suc first) (omega arith)) (ap (λ n. places_in n first end) same))
+  | inr here ↦ (
+      let a : max first next ≡ first = omega arith in
+      let b : max first (max next (suc first)) ≡ suc first = omega arith in
+      let one : places_in next first (suc first) ≡ numbers first 1 = ap (λ x. numbers x (suc first - x)) a ∙ ap (numbers first) (omega arith) in
+      let rest : places_in (max next (suc first)) first end ≡ numbers (suc first) (end - suc first) = ap (λ x. numbers x (end - x)) b in
+      let whole : places_in next first end ≡ numbers first (end - first) = ap (λ x. numbers x (end - x)) a in
+      ap (λ xs. xs ++ places_in (max next (suc first)) first end) one
+      ∙ (ap (λ xs. numbers first 1 ++ xs) rest
+      ∙ (numbers-then first 1 (suc first) (end - suc first) (omega arith)
+      ∙ (ap (numbers first) (omega arith) ∙ sym whole))))
+]
+
+pub behind-all : (next first end : ℕ) → first < end → next_behind (max next (suc first)) first end ≡ next_behind next first end
+behind-all next first end h =
+    let e : max (max next (suc first)) end ≡ max next end = omega arith in
+    behind-some (max next (suc first)) first end h ∙ (e ∙ sym (behind-some next first end h))
+
+-- a walk over what is left of the runs, one run further
+pub walk-next : (next i : ℕ) (runs : List Run) (run : Run) → i < length runs
+    → places_in next (get_or runs i run).first (get_or runs i run).end ++ walk (next_behind next (get_or runs i run).first (get_or runs i run).end) (drop (i + 1) runs) ≡ walk next (drop i runs)
+unfolding walk
+walk-next next i runs run h = sym (ap (walk next) (drop_more runs i run h))
+
+pub walk-nil : (next : ℕ) → walk next [] ≡ []
+unfolding walk
+walk-nil next = refl
+
+-- one run further, as pages, behind those so far
+pub pages-next : (number : ℕ → ℕ) (seen whole now rest all : List ℕ) → seen ++ map number all ≡ whole → now ++ rest ≡ all → (seen ++ map number now) ++ map number rest ≡ whole
+pages-next number seen whole now rest all e f =
+    append_assoc seen (map number now) (map number rest)
+    ∙ (ap (λ xs. seen ++ xs) (sym (map-append number now rest) ∙ ap (map number) f) ∙ e)
+
+module _ {T K : Type 0} (l : Layout T K) (first rows level : ℕ) where
+  abbrev number : ℕ → ℕ
+  number = page_number l first rows level
+
+  abbrev holding : ℕ → List ℕ
+  holding next = in_hand l first rows level next
+
+  -- what was read last is in hand
+  pub hand-follows : (next from end : ℕ) → (before : List ℕ) × (holding next ++ map number (places_in next from end) ≡ before ++ holding (next_behind next from end))
+  hand-follows next from end = elim (cases_lt (max from next) end) [
+    | inr none ↦ (
+        let same : next_behind next from end ≡ next = unmoved next from end none in
+        ([], rw (places-none next from end none, same) (append-nil (holding next))))
+    | inl some ↦ (
+        let m = end - suc (max from next) in
+        let e : max next end ≡ suc (max from next + m) = omega arith in
+        let behind : next_behind next from end ≡ suc (max from next + m) = behind-some next from end (omega arith) ∙ e in
+        let places : places_in next from end ≡ numbers (max from next) m ++ numbers (max from next + m) 1 =
+        sym (numbers-append (max from next) m 1 ∙ ap (numbers (max from next)) (omega arith)) in
+        (holding next ++ map number (numbers (max from next) m),
+        ap (λ xs. holding next ++ map number xs) places
+        ∙ (ap (λ xs. holding next ++ xs) (map-append number (numbers (max from next) m) (numbers (max from next + m) 1))
+        ∙ (sym (append_assoc (holding next) (map number (numbers (max from next) m)) (map number (numbers (max from next + m) 1)))
+        ∙ ap (λ xs. (holding next ++ map number (numbers (max from next) m)) ++ xs) (numbers-one number (max from next + m) ∙ ap holding (sym behind))))))
+  ]
