@@ -59,34 +59,48 @@ place-one number next at h =
 pub place-passed : (number : ℕ → ℕ) (next at : ℕ) → at < next → [] ≡ map number (places_in next at (suc at))
 place-passed number next at h = sym (ap (map number) (places-none next at (suc at) (omega arith)))
 
--- one place more
-pub places-next : (next first at : ℕ) → first ≤ at → places_in next first at ++ places_in (next_behind next first at) at (suc at) ≡ places_in next first (suc at)
-places-next next first at h = elim (cases_lt at next) [
-  | inl passed ↦
-      rw (places-none next first at (omega arith), places-none (next_behind next first at) at (suc at) (let least = behind-least next first at in omega arith), places-none next first (suc at) (omega arith)) refl
-  | inr here ↦ (
-      let m : ℕ = max first next in
+-- the places up to one between, and those from there
+pub places-split : (next first at end : ℕ) → first ≤ at → at ≤ end → places_in next first at ++ places_in (next_behind next first at) at end ≡ places_in next first end
+places-split next first at end h k = elim (cases_lt next at) [
+  | inr passed ↦ (
+      let same : next_behind next first at ≡ next = let least = behind-least next first at in let most = behind-most next first at in omega arith in
+      let m : max at next ≡ max first next = omega arith in
+      rw (places-none next first at (omega arith), same) (ap (λ x. numbers x (end - x)) m))
+  | inl here ↦ (
       let n : max at (next_behind next first at) ≡ at = let most = behind-most next first at in omega arith in
-      let one : suc at - at ≡ 1 = omega arith in
-      let second : places_in (next_behind next first at) at (suc at) ≡ numbers at 1 = ap (λ x. numbers x (suc at - x)) n ∙ ap (numbers at) one in
+      let second : places_in (next_behind next first at) at end ≡ numbers at (end - at) = ap (λ x. numbers x (end - x)) n in
       ap (λ xs. places_in next first at ++ xs) second
-      ∙ (numbers-then (max first next) (at - max first next) at 1 (omega arith)
+      ∙ (numbers-then (max first next) (at - max first next) at (end - at) (omega arith)
       ∙ ap (numbers (max first next)) (omega arith)))
 ]
 
--- where no place is left the next one stays
-pub unmoved : (next first end : ℕ) → end ≤ max first next → next_behind next first end ≡ next
-unmoved next first end h = elim (cases_lt first end) [
-  | inl some ↦ let e : max next end ≡ next = omega arith in behind-some next first end some ∙ e
-  | inr none ↦ behind-none next first end none
+-- at the end of a loop over a run
+pub places-whole : (next first at end : ℕ) → first ≤ at → end ≤ at → at ≤ max first end → places_in next first at ≡ places_in next first end
+places-whole next first at end a b c = elim (cases_lt first end) [
+  | inl some ↦ let e : at ≡ end = omega arith in ap (places_in next first) e
+  | inr none ↦ places-none next first at (omega arith) ∙ sym (places-none next first end (omega arith))
 ]
 
-pub behind-next : (next first at : ℕ) → first ≤ at → max (next_behind next first at) (suc at) ≡ next_behind next first (suc at)
-behind-next next first at h =
-    let least = behind-least next first at in
-    let most = behind-most next first at in
-    let e : max (next_behind next first at) (suc at) ≡ max next (suc at) = omega arith in
-    e ∙ sym (behind-some next first (suc at) (omega arith))
+pub behind-whole : (next first at end : ℕ) → first ≤ at → end ≤ at → at ≤ max first end → next_behind next first at ≡ next_behind next first end
+behind-whole next first at end a b c = elim (cases_lt first end) [
+  | inl some ↦ let e : at ≡ end = omega arith in ap (next_behind next first) e
+  | inr none ↦ behind-none next first at (omega arith) ∙ sym (behind-none next first end none)
+]
+
+-- the pages of a run so far, and one more
+pub run-next : (number : ℕ → ℕ) (next first at now : ℕ) → first ≤ at → now ≡ next_behind next first at
+    → map number (places_in next first at) ++ map number (places_in now at (suc at)) ≡ map number (places_in next first (at + 1))
+run-next number next first at now h e =
+    sym (map-append number (places_in next first at) (places_in now at (suc at)))
+    ∙ ap (map number) (ap (λ n. places_in next first at ++ places_in n at (suc at)) e ∙ (places-split next first at (suc at) h (omega arith) ∙ ap (places_in next first) (omega arith)))
+
+-- and the pages that are left
+pub run-left : (number : ℕ → ℕ) (next first at end now : ℕ) → first ≤ at → at < end → now ≡ next_behind next first at
+    → (map number (places_in next first at) ++ map number (places_in now at (suc at))) ++ map number (places_in (next_behind next first (at + 1)) (at + 1) end) ≡ map number (places_in next first end)
+run-left number next first at end now h k e =
+    ap (λ xs. xs ++ map number (places_in (next_behind next first (at + 1)) (at + 1) end)) (run-next number next first at now h e)
+    ∙ (sym (map-append number (places_in next first (at + 1)) (places_in (next_behind next first (at + 1)) (at + 1) end))
+    ∙ ap (map number) (places-split next first (at + 1) end (omega arith) (omega arith)))
 
 -- the first place of a run, and then all of it
 pub places-all : (next first end : ℕ) → first < end → places_in next first (suc first) ++ places_in (max next (suc first)) first end ≡ places_in next first end
@@ -105,6 +119,30 @@ places-all next first end h = elim (cases_lt first next) [
       ∙ (numbers-then first 1 (suc first) (end - suc first) (omega arith)
       ∙ (ap (numbers first) (omega arith) ∙ sym whole))))
 ]
+
+-- the same for its first page, and then all
+pub run-all : (number : ℕ → ℕ) (next first end now : ℕ) → first < end → now ≡ max next (suc first)
+    → map number (places_in next first (suc first)) ++ map number (places_in now first end) ≡ map number (places_in next first end)
+run-all number next first end now h e =
+    sym (map-append number (places_in next first (suc first)) (places_in now first end))
+    ∙ ap (map number) (ap (λ n. places_in next first (suc first) ++ places_in n first end) e ∙ places-all next first end h)
+
+-- where no place is left the next one stays
+pub unmoved : (next first end : ℕ) → end ≤ max first next → next_behind next first end ≡ next
+unmoved next first end h = elim (cases_lt first end) [
+  | inl some ↦ let e : max next end ≡ next = omega arith in behind-some next first end some ∙ e
+  | inr none ↦ behind-none next first end none
+]
+
+pub behind-next : (next first at : ℕ) → first ≤ at → max (next_behind next first at) (suc at) ≡ next_behind next first (suc at)
+behind-next next first at h =
+    let least = behind-least next first at in
+    let most = behind-most next first at in
+    let e : max (next_behind next first at) (suc at) ≡ max next (suc at) = omega arith in
+    e ∙ sym (behind-some next first (suc at) (omega arith))
+
+pub behind-step : (next first at : ℕ) → first ≤ at → max (next_behind next first at) (suc at) ≡ next_behind next first (at + 1)
+behind-step next first at h = behind-next next first at h ∙ ap (next_behind next first) (omega arith)
 
 pub behind-all : (next first end : ℕ) → first < end → next_behind (max next (suc first)) first end ≡ next_behind next first end
 behind-all next first end h =
