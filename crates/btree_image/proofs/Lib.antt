@@ -15,3 +15,5 @@ pub mod Lent
 pub mod Along
 pub mod Places
 pub mod Shown
+pub mod Ranks
+pub mod Narrowed

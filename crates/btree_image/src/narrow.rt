@@ -45,7 +45,7 @@ fn pass<T: TreeRow, P: Pages>(
 // The first child to which a key leads in the page in hand.
 fn first_below<T: TreeRow>(hand: &InHand, key: &T::Key) -> u64
     requires some { 0 < hand.now.next }
-    requires few { hand.now.next < 2 ^ 32 }
+    requires few { hand.now.next ≤ 2 ^ 32 }
     requires page { (level : ℕ) × IsPage T.layout.inner level hand.now.buf }
     requires count { hand.now.count ≡ row_count hand.now.buf }
     requires rows { 0 < hand.now.count }
@@ -58,7 +58,7 @@ fn first_below<T: TreeRow>(hand: &InHand, key: &T::Key) -> u64
 // The end of the children of the page in hand whose keys are at most a key.
 fn end_below<T: TreeRow>(hand: &InHand, size: u64, key: &T::Key) -> u64
     requires some { 0 < hand.now.next }
-    requires few { hand.now.next < 2 ^ 32 }
+    requires few { hand.now.next ≤ 2 ^ 32 }
     requires page { (level : ℕ) × IsPage T.layout.inner level hand.now.buf }
     requires count { hand.now.count ≡ row_count hand.now.buf }
     ensures most { result ≤ size }
