@@ -1,7 +1,7 @@
 -- The places that a walk over a level reads.
-use Rattle.std.proofs.Common.{◌≡◌, ℕ, zero, suc, ◌+◌, ◌-◌, ◌<◌, ◌≤◌, max, Bool, true, false, List, [], ◌∷◌, ◌++◌, map, drop, length, get_or, arith, refl, sym, ◌∙◌, ap, inl, inr, nat_lt, if◌then◌else◌, append_assoc}
-use Rattle.std.proofs.lemmas.Bool.{cases_lt, lt-ltb, le-ltb}
-use Rattle.std.proofs.lemmas.List.{drop_more, append-nil, map-append}
+use Rattle.std.proofs.Common.{◌≡◌, ℕ, zero, suc, ◌+◌, ◌-◌, ◌<◌, ◌≤◌, max, Bool, true, false, List, [], ◌∷◌, ◌++◌, map, drop, length, get_or, set, subst, arith, refl, sym, ◌∙◌, ap, inl, inr, nat_lt, if◌then◌else◌, append_assoc}
+use Rattle.std.proofs.lemmas.Bool.{cases_lt, cases_eq, lt-ltb, le-ltb}
+use Rattle.std.proofs.lemmas.List.{drop_more, drop_all, append-nil, map-append, get_or-set_same, get_or-set_other}
 use Rattle.btree_image.specs.declared.runs.Run.{Run}
 use Rattle.btree_image.specs.Rows.{Layout}
 use Rattle.btree_image.specs.Image.{numbers, page_number}
@@ -190,3 +190,22 @@ module _ {T K : Type 0} (l : Layout T K) (first rows level : ℕ) where
         ∙ (sym (append_assoc (holding next) (map number (numbers (max from next) m)) (map number (numbers (max from next + m) 1)))
         ∙ ap (λ xs. (holding next ++ map number (numbers (max from next) m)) ++ xs) (numbers-one number (max from next + m) ∙ ap holding (sym behind))))))
   ]
+
+-- a place of a list, whatever stands for one outside
+pub same_default : {X : Type 0} (xs : List X) (i : ℕ) (d e : X) → i < length xs → get_or xs i d ≡ get_or xs i e
+same_default [] i d e h = absurd (omega arith)
+same_default (x ∷ xs) zero d e h = refl
+same_default (x ∷ xs) (suc i) d e h = same_default xs i d e (omega arith)
+
+-- what was kept in the elements before one, with this one too
+pub one-more : {X : Type 0} (P : ℕ → X → Type 0) (xs : List X) (i : ℕ) (x : X) → i < length xs → ((j : ℕ) (d : X) → j < i → P j (get_or xs j d)) → P i x
+    → (j : ℕ) (d : X) → j < i + 1 → P j (get_or (set xs i x) j d)
+one-more P xs i x inside before here j d h = elim (cases_eq j i) [
+  | inl same ↦ subst (λ k. P k (get_or (set xs i x) k d)) (sym same) (subst (P i) (sym (get_or-set_same xs i x d inside)) here)
+  | inr apart ↦ subst (P j) (sym (get_or-set_other xs i j x d apart)) (before j d (omega (arith, h, apart)))
+]
+
+-- the pages of a walk that is over
+pub pages-done : (number : ℕ → ℕ) (seen whole : List ℕ) (next i : ℕ) (runs : List Run) → length runs ≤ i → seen ++ map number (walk next (drop i runs)) ≡ whole → seen ≡ whole
+pages-done number seen whole next i runs over e =
+    sym (append-nil seen) ∙ (sym (ap (λ xs. seen ++ map number xs) (ap (walk next) (drop_all i runs over) ∙ walk-nil next)) ∙ e)

@@ -134,7 +134,7 @@ pub(crate) fn narrow<T: TreeRow, P: Pages>(
     hand.next = 0;
     for i in 0..runs.len() {
         match narrow_run::<T, P>(pages, tree, below, &ranges[i], runs[i], hand) {
-            Ok(run) => runs[i] = run,
+            Ok(narrowed) => runs[i] = narrowed,
             Err(fault) => return Err(fault),
         }
     }
