@@ -17,3 +17,4 @@ pub mod Places
 pub mod Shown
 pub mod Ranks
 pub mod Narrowed
+pub mod Gathered

@@ -32,11 +32,10 @@ fn push_rows<T: TreeRow>(
 {
     for i in from..to {
         match T::read(row(&hand.buf, i)) {
-            Some(found) => {
-                if out.push(found).is_err() {
-                    return Err(PageFault::OutOfMemory);
-                }
-            }
+            Some(found) => match out.push(found) {
+                Ok(()) => {}
+                Err(_) => return Err(PageFault::OutOfMemory),
+            },
             None => return Err(PageFault::Damaged { page: hand.page }),
         }
     }
