@@ -1,6 +1,6 @@
 -- How a reader of a tree goes on, step by step.
 use Rattle.std.proofs.Common.{◌≡◌, ℕ, ◌+◌, ◌-◌, ◌^◌, ◌≤◌, Bool, true, false, List, [], ◌∷◌, ◌++◌, All, Option, Some, None, arith, refl, sym, ◌∙◌, ap, subst, append_assoc, inl, inr, nat_lt, if◌then◌else◌}
-use Rattle.std.specs.Prelude.{IsTrue, Result, Ok, Err}
+use Rattle.std.specs.Prelude.{IsTrue, Result, Ok, Err, IfErr, OnOk, ◌⊎◌}
 use Rattle.std.proofs.lemmas.List.{append-nil}
 use Rattle.std.proofs.lemmas.Bool.{cases_Bool, ltb-true, ltb-false}
 use Rattle.std.proofs.lemmas.List.Elements.{All-append, All-cons}
@@ -12,7 +12,7 @@ use Rattle.btree_image.specs.Rows.{Layout}
 use Rattle.btree_image.specs.Image.{IsShown}
 use Rattle.btree_image.specs.Damage.{IsDamaged}
 use Rattle.btree_image.specs.Asked.{given, given_but_last, EndsWith}
-use Rattle.btree_image.specs.Walks.{reads_by, StopsOn, GoesAlong, OnDamaged, OnFailed, GoesOn}
+use Rattle.btree_image.specs.Walks.{reads_by, StopsOn, GoesAlong, OnDamaged, OnFailed, GoesOn, fault_of}
 use Rattle.btree_image.proofs.Trail.{given-append}
 
 -- a count that rose later rose
@@ -215,3 +215,19 @@ module _ {T K S : Type 0} {l : Layout T K} {at rows : ℕ} {lent : S → ℕ →
     are_lent = All-cons (λ page. IsTrue (lent first page)) page [] is_lent (λ k d h. absurd (omega arith));
     stops = (page, ([], refl));
   }
+
+  -- a step that may be refused while rows of the page in hand are copied out
+  pub goes-copied : {X : Type 0} {first second : S} (result : Result X PageFault) (hand way : List ℕ) (page : ℕ) (Bad : Type 0)
+      → IfErr result (λ fault. (fault ≡ OutOfMemory) ⊎ ((fault ≡ Damaged page) × Bad))
+      → GoesOn l at rows lent contents count asked first second None hand way → EndsWith (hand ++ way) page
+      → (Bad → WhereTold (contents first) (λ bytes. IsDamaged l at rows bytes page)) → (Bad → (list : List T) → IsShown l (contents first) at rows list → ⊥)
+      → GoesOn l at rows lent contents count asked first second (fault_of result) hand way
+  goes-copied (Ok x) hand way page Bad refused a ends bad never = a
+  goes-copied {first = first} {second = second} (Err fault) hand way page Bad refused a ends bad never = elim refused [
+    | inl full ↦ subst (λ f. GoesOn l at rows lent contents count asked first second (Some f) hand way) (sym full) (goes-full hand way a)
+    | inr wrong ↦ subst (λ f. GoesOn l at rows lent contents count asked first second (Some f) hand way) (sym wrong.0) (goes-damaged hand way page a ends (bad wrong.1) (never wrong.1))
+  ]
+
+pub on_ok : {X E : Type 0} (result : Result X E) (P Q : Type 0) → (P → Q) → OnOk result P → OnOk result Q
+on_ok (Ok x) P Q f p = f p
+on_ok (Err e) P Q f p = tt

@@ -1,10 +1,10 @@
 -- What a leaf tells of the rows of a range.
-use Rattle.std.proofs.Common.{◌≡◌, ℕ, zero, suc, ◌+◌, ◌-◌, ◌*◌, ◌/◌, ◌<◌, ◌≤◌, min, max, Bool, true, false, not, List, [], ◌∷◌, ◌++◌, take, drop, map, length, get_or, All, Some, arith, refl, sym, ◌∙◌, ap, subst, inl, inr, if◌then◌else◌, get_or-drop, length-drop}
+use Rattle.std.proofs.Common.{◌≡◌, ◌≢◌, ℕ, zero, suc, ◌+◌, ◌-◌, ◌*◌, ◌/◌, ◌<◌, ◌≤◌, min, max, Bool, true, false, not, List, [], ◌∷◌, ◌++◌, take, drop, map, length, get_or, All, Some, arith, refl, sym, ◌∙◌, ap, subst, inl, inr, if◌then◌else◌, get_or-drop, length-drop, length-take}
 use Rattle.std.specs.Prelude.{slice_index_or}
 use Rattle.std.proofs.Math.Nat.{div-mul-le_self, mul-le-mul_left, lt-div-mul-add}
 use Rattle.std.proofs.Math.Seq.{take-add}
 use Rattle.std.proofs.lemmas.Bool.{cases_lt, cases_eq}
-use Rattle.std.proofs.lemmas.List.{take-take, drop-drop, drop-take, take_more, take-map, drop-map}
+use Rattle.std.proofs.lemmas.List.{take-take, drop-drop, drop-take, take_more, take-map, drop-map, length-map}
 use Rattle.std.proofs.lemmas.List.Elements.{All-take, All-drop}
 use Rattle.std.specs.Ordering.{is_gt, is_lt}
 use Rattle.std.specs.declared.cmp.Ordering.TheVariants.{Greater}
@@ -19,10 +19,10 @@ use Rattle.btree_image.proofs.OnPage.{length-rows_on}
 use Rattle.btree_image.proofs.Covers.{span-zero}
 use Rattle.btree_image.proofs.Rank.{rank-le, at_most-below, greater-from}
 use Rattle.btree_image.proofs.Ranks.{below-rank, below-passes, below-stops, rank-next}
-use Rattle.btree_image.proofs.Narrowed.{end-some, end-none, place-none}
+use Rattle.btree_image.proofs.Narrowed.{end-some, place-none, last_place}
 use Rattle.btree_image.proofs.Children.{stands, Stands, not_greater}
 use Rattle.btree_image.proofs.Leaf.{leaf-low, leaf-high}
-use Rattle.btree_image.proofs.Told.{leaf_place, leaf_rows, leaf_count, key_there, no_rows}
+use Rattle.btree_image.proofs.Told.{leaf_place, leaf_count, key_there, no_rows}
 
 pub none-yet : (from : ℕ) (rows : List (List ℕ)) → take (from - from) (drop from rows) ≡ []
 none-yet from rows = let e : from - from ≡ 0 = omega arith in rw e refl
@@ -186,6 +186,80 @@ module _ {T K : Type 0} (l : Layout T K) (o : IsKeyOrder l.order) (a : 1 ≤ mos
   pub leaf-stop : (key : K) → rank l list key ≤ suc (place_of_key l list key 0) * w
   leaf-stop key = let high = leaf-high l o list is.ascends is.stored key a (place_of_key l list key 0) refl in omega arith
 
+  rank-most : (key : K) → rank l list key ≤ rank_below l list key + 1
+  rank-most key = elim (cases_lt 0 (length list)) [
+    | inl some ↦ rank-next l o list is.ascends key (stands list 0 some).row
+    | inr none ↦ (let le = rank-le l o list is.ascends key in omega arith)
+  ]
+
+  below-start : (range : K × K) (run : Run) → Leads l list 0 range run → run.first * w ≤ rank_below l list range.0
+  below-start range run leads =
+      let start : run.first * w ≤ rank l list range.0 - 1 = rw leads.first_is (leaf-start range.0) in
+      let next = rank-most range.0 in
+      omega arith
+
+  reached : (range : K × K) (run : Run) (at : ℕ) → Leads l list 0 range run → 1 ≤ at → at < run.end → at * w + 1 ≤ rank l list range.1
+  reached range run at leads later before = elim (cases_lt 0 (rank l list range.1)) [
+    | inr none ↦ absurd (let few = leads.none (omega arith) in omega arith)
+    | inl some ↦ (
+        let end = leads.end_is some in
+        let f = end-some l o a b rows list is range.1 0 some in
+        let start = leaf-start range.1 in
+        let grown : w * at ≤ w * place_of_key l list range.1 0 = mul-le-mul_left w (omega arith) in
+        omega arith)
+  ]
+
+  under : (range : K × K) (run : Run) (at : ℕ) → Leads l list 0 range run → run.first < at → rank_below l list range.0 ≤ at * w
+  under range run at leads later =
+      let stop : rank l list range.0 ≤ suc run.first * w = rw leads.first_is (leaf-stop range.0) in
+      let grown : w * suc run.first ≤ w * at = mul-le-mul_left w (omega arith) in
+      let le = below-rank l o list range.0 in
+      omega arith
+
+  -- the rows of a leaf that is shown
+  pub shown_rows : (at : ℕ) (bytes : List ℕ) → ShowsRows l.leaf 0 (level_rows l list 0 at) bytes → rows_on bytes ≡ map l.to_bytes (take w (drop (at * w) list))
+  unfolding level_rows
+  shown_rows at bytes shows = shows.all
+
+  shown_count : (at : ℕ) (bytes : List ℕ) → ShowsRows l.leaf 0 (level_rows l list 0 at) bytes → row_count bytes ≡ min w (length list - at * w)
+  shown_count at bytes shows =
+      let whole = take w (drop (at * w) list) in
+      sym (length-rows_on bytes) ∙ (ap length (shown_rows at bytes shows) ∙ (length-map whole l.to_bytes
+      ∙ (length-take w (drop (at * w) list) ∙ ap (min w) (length-drop (at * w) list))))
+
+  -- from which row a leaf has rows of a range, and up to which one
+  pub from-told : (range : K × K) (run : Run) (at : ℕ) → Leads l list 0 range run → run.first ≤ at → (bytes : List ℕ) → ShowsRows l.leaf 0 (level_rows l list 0 at) bytes
+      → (r : ℕ) → r ≤ row_count bytes
+      → (at ≡ run.first → (place : ℕ) → IsLastUpTo l range.0 (rows_on bytes) place → r ≡ (if precedes l range.0 (slice_index_or (rows_on bytes) place []) then place + 1 else place))
+      → (at ≢ run.first → r ≡ 0) → at * w + r ≡ max (rank_below l list range.0) (at * w)
+  from-told range run at leads from bytes shows r most firsts laters = elim (cases_eq at run.first) [
+    | inl same ↦ (let e = before-told range.0 at (same ∙ leads.first_is) bytes shows r most (firsts same) in omega arith)
+    | inr apart ↦ (let e = laters apart in let low = under range run at leads (omega (arith, from, apart)) in omega arith)
+  ]
+
+  pub to-told : (range : K × K) (run : Run) (at : ℕ) → Leads l list 0 range run → run.first ≤ at → at < run.end → (bytes : List ℕ) → ShowsRows l.leaf 0 (level_rows l list 0 at) bytes
+      → (r : ℕ) → r ≤ row_count bytes
+      → (run.end - at ≡ 1 → (place : ℕ) → IsLastUpTo l range.1 (rows_on bytes) place → r ≡ (if reaches l range.1 (slice_index_or (rows_on bytes) place []) then place + 1 else place))
+      → (run.end - at ≢ 1 → r ≡ row_count bytes) → at * w + r ≡ min (rank l list range.1) (suc at * w)
+  to-told range run at leads from before bytes shows r most lasts earliers = elim (cases_eq (run.end - at) 1) [
+    | inl same ↦ (
+        let last = last_place l o a b rows list is 0 range run leads (omega arith) in
+        let here : at ≡ place_of_key l list range.1 0 = omega arith in
+        let e = up_to-told range.1 at here bytes shows r most (lasts same) in
+        let stop : rank l list range.1 ≤ suc at * w = rw here (leaf-stop range.1) in
+        omega arith)
+    | inr apart ↦ (
+        let e = earliers apart in
+        let more = reached range run (suc at) leads (omega arith) (omega (arith, before, apart)) in
+        let le = rank-le l o list is.ascends range.1 in
+        let count = shown_count at bytes shows in
+        let step : suc at * w ≡ at * w + w = omega arith in
+        omega arith)
+  ]
+
+  pub short : (at : ℕ) (bytes : List ℕ) → ShowsRows l.leaf 0 (level_rows l list 0 at) bytes → row_count bytes ≤ w
+  short at bytes shows = let count = shown_count at bytes shows in omega arith
+
   -- at the start of a range's leaves nothing was found
   pub rows-start : (range : K × K) (run : Run) → Leads l list 0 range run → min (rank l list range.1) (run.first * w) ≤ rank_below l list range.0
   rows-start range run leads =
@@ -193,12 +267,6 @@ module _ {T K : Type 0} (l : Layout T K) (o : IsKeyOrder l.order) (a : 1 ≤ mos
       let start : run.first * w ≤ rank l list range.0 - 1 = rw first (leaf-start range.0) in
       let next = rank-most range.0 in
       omega arith
-    where
-      rank-most : (key : K) → rank l list key ≤ rank_below l list key + 1
-      rank-most key = elim (cases_lt 0 (length list)) [
-        | inl some ↦ rank-next l o list is.ascends key (stands list 0 some).row
-        | inr none ↦ (let le = rank-le l o list is.ascends key in omega arith)
-      ]
 
   -- one leaf more
   pub rows-next : (range : K × K) (run : Run) (at : ℕ) → Leads l list 0 range run → run.first ≤ at → at < run.end
@@ -219,39 +287,14 @@ module _ {T K : Type 0} (l : Layout T K) (o : IsKeyOrder l.order) (a : 1 ≤ mos
             ap (λ xs. xs ++ part list (max low (at * w)) (min high (suc at * w))) (part-none list low (min high (at * w)) start)
             ∙ (ap (λ n. part list n (min high (suc at * w))) lower ∙ ap (λ n. part list low (min high n)) (sym step)))
         | inl later ↦ (
-            let stop : rank l list range.0 ≤ suc run.first * w = rw leads.first_is (leaf-stop range.0) in
-            let grown : w * suc run.first ≤ w * at = mul-le-mul_left w (omega arith) in
-            let le = below-rank l o list range.0 in
-            let under : low ≤ at * w = omega arith in
-            let upper : at * w ≤ high = reached range run at leads later before in
+            let lower : low ≤ at * w = under range run at leads later in
+            let upper = reached range run at leads (omega arith) before in
             let x : min high (at * w) ≡ at * w = omega arith in
             let y : max low (at * w) ≡ at * w = omega arith in
             ap (λ n. part list low n ++ part list (max low (at * w)) (min high (suc at * w))) x
             ∙ (ap (λ n. part list low (at * w) ++ part list n (min high (suc at * w))) y
-            ∙ (part-then list low (at * w) (min high (suc at * w)) under (omega arith)
+            ∙ (part-then list low (at * w) (min high (suc at * w)) lower (omega arith)
             ∙ ap (λ n. part list low (min high n)) (sym step))))
-      ]
-    where
-      below-start : (range : K × K) (run : Run) → Leads l list 0 range run → run.first * w ≤ rank_below l list range.0
-      below-start range run leads =
-          let start : run.first * w ≤ rank l list range.0 - 1 = rw leads.first_is (leaf-start range.0) in
-          let next = rank-most range.0 in
-          omega arith
-        where
-          rank-most : (key : K) → rank l list key ≤ rank_below l list key + 1
-          rank-most key = elim (cases_lt 0 (length list)) [
-            | inl some ↦ rank-next l o list is.ascends key (stands list 0 some).row
-            | inr none ↦ (let le = rank-le l o list is.ascends key in omega arith)
-          ]
-      reached : (range : K × K) (run : Run) (at : ℕ) → Leads l list 0 range run → run.first < at → at < run.end → at * w ≤ rank l list range.1
-      reached range run at leads later before = elim (cases_lt 0 (rank l list range.1)) [
-        | inr none ↦ absurd (let few = leads.none (omega arith) in omega arith)
-        | inl some ↦ (
-            let end = leads.end_is some in
-            let f = end-some l o a b rows list is range.1 0 some in
-            let start = leaf-start range.1 in
-            let grown : w * at ≤ w * place_of_key l list range.1 0 = mul-le-mul_left w (omega arith) in
-            omega arith)
       ]
 
   -- at the end of a range's leaves all its rows were found

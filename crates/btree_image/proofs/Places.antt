@@ -3,6 +3,7 @@ use Rattle.std.proofs.Common.{◌≡◌, ℕ, zero, suc, ◌+◌, ◌-◌, ◌<�
 use Rattle.std.proofs.lemmas.Bool.{cases_lt, cases_eq, lt-ltb, le-ltb}
 use Rattle.std.proofs.lemmas.List.{drop_more, drop_all, append-nil, map-append, get_or-set_same, get_or-set_other}
 use Rattle.btree_image.specs.declared.runs.Run.{Run}
+use Rattle.btree_image.specs.Asked.{EndsWith}
 use Rattle.btree_image.specs.Rows.{Layout}
 use Rattle.btree_image.specs.Image.{numbers, page_number}
 use Rattle.btree_image.specs.Walks.{places_in, next_behind, walk, in_hand}
@@ -209,3 +210,11 @@ one-more P xs i x inside before here j d h = elim (cases_eq j i) [
 pub pages-done : (number : ℕ → ℕ) (seen whole : List ℕ) (next i : ℕ) (runs : List Run) → length runs ≤ i → seen ++ map number (walk next (drop i runs)) ≡ whole → seen ≡ whole
 pages-done number seen whole next i runs over e =
     sym (append-nil seen) ∙ (sym (ap (λ xs. seen ++ map number xs) (ap (walk next) (drop_all i runs over) ∙ walk-nil next)) ∙ e)
+
+-- a step to a place ends with the page in hand
+pub hand-ends : {T K : Type 0} (l : Layout T K) (first rows level next at now page : ℕ) → now ≡ max next (suc at) → page ≡ page_number l first rows level (now - 1)
+    → EndsWith (in_hand l first rows level next ++ map (page_number l first rows level) (places_in next at (suc at))) page
+hand-ends l first rows level next at now page e number_is =
+    let follows = hand-follows l first rows level next at (suc at) in
+    let behind : next_behind next at (suc at) ≡ suc (now - 1) = behind-some next at (suc at) (omega arith) ∙ omega arith in
+    (follows.0, follows.1 ∙ ap (λ xs. follows.0 ++ xs) (ap (in_hand l first rows level) behind ∙ ap (λ n. n ∷ []) (sym number_is)))

@@ -1,12 +1,13 @@
 //! The leaves: their pages are read from left to right, and the rows of each range are copied out.
 
-ghost use Rattle.std.specs.Prelude.{◌≡◌, ℕ, suc, zero, [], ◌++◌, ◌+◌, ◌-◌, ◌*◌, ◌<◌, ◌≤◌, min, max, List, length, map, take, drop, Some, All, OnOk, IfErr, ◌⊎◌};
+ghost use Rattle.std.specs.Prelude.{◌≡◌, ◌≢◌, ℕ, suc, zero, [], ◌++◌, ◌+◌, ◌-◌, ◌*◌, ◌<◌, ◌≤◌, min, max, List, length, map, take, drop, slice_index_or, Some, All, OnOk, IfErr, ◌⊎◌, if◌then◌else◌};
 ghost use Rattle.page_codec.specs.Page.{IsPage, row_count, rows_on, most_rows};
 ghost use Rattle.page_codec.specs.declared.faults.PageFault.TheVariants.{Damaged, OutOfMemory};
 ghost use Rattle.btree_image.specs.Shape.{level_size, IsPlace};
 ghost use Rattle.btree_image.specs.Image.{shape_of, page_number, level_kind, AreLent, IsShown};
 ghost use Rattle.btree_image.specs.Descent.{rank};
 ghost use Rattle.btree_image.specs.Damage.{AllReadable};
+ghost use Rattle.btree_image.specs.Steps.{reaches, precedes, IsLastUpTo};
 ghost use Rattle.btree_image.specs.Visited.{AreRanges, rows_met};
 ghost use Rattle.btree_image.specs.Walks.{GoesOn, fault_of, IsInHand, Holds, in_hand, places_in, next_behind, walk, rank_below, Leads, AllLead, part, rows_of};
 
@@ -42,6 +43,39 @@ fn push_rows<T: TreeRow>(
     Ok(())
 }
 
+// The first row of the leaf in hand that is in a range. The range begins in the first leaf of its run.
+fn first_row<T: TreeRow>(hand: &InHand, run: Run, at: u64, key: &T::Key) -> u16
+    requires page { IsPage T.layout.leaf 0 hand.now.buf }
+    requires count { hand.now.count ≡ row_count hand.now.buf }
+    ensures most { result ≤ hand.now.count }
+    ensures first { at ≡ run.first → (place : ℕ) → IsLastUpTo T.layout key.now (rows_on hand.now.buf) place
+        → result ≡ (if precedes T.layout key.now (slice_index_or (rows_on hand.now.buf) place []) then place + 1 else place) }
+    ensures later { at ≢ run.first → result ≡ 0 }
+{
+    if at == run.first {
+        rows_before::<T>(&hand.buf, hand.count, key)
+    } else {
+        0
+    }
+}
+
+// The end of the rows of the leaf in hand that are in a range. The range ends in the last leaf of its run.
+fn end_row<T: TreeRow>(hand: &InHand, run: Run, at: u64, key: &T::Key) -> u16
+    requires page { IsPage T.layout.leaf 0 hand.now.buf }
+    requires count { hand.now.count ≡ row_count hand.now.buf }
+    requires in_run { at < run.end }
+    ensures most { result ≤ hand.now.count }
+    ensures last { run.end - at ≡ 1 → (place : ℕ) → IsLastUpTo T.layout key.now (rows_on hand.now.buf) place
+        → result ≡ (if reaches T.layout key.now (slice_index_or (rows_on hand.now.buf) place []) then place + 1 else place) }
+    ensures earlier { run.end - at ≢ 1 → result ≡ hand.now.count }
+{
+    if run.end - at == 1 {
+        rows_up_to::<T>(&hand.buf, hand.count, key)
+    } else {
+        hand.count
+    }
+}
+
 // Goes on to a leaf of a range, and copies the rows of the range out that stand there.
 fn gather_page<T: TreeRow, P: Pages>(
     pages: &mut P,
@@ -53,6 +87,7 @@ fn gather_page<T: TreeRow, P: Pages>(
     out: &mut Vec<T>,
 ) -> Result<(), PageFault>
     requires place { at < level_size (shape_of T.layout tree.rows) 0 }
+    requires in_run { at < run.end }
     requires lent { AreLent T.layout (P.lent pages.old) tree.first tree.rows }
     requires holds { Holds T.layout tree.first tree.rows (P.contents pages.old) 0 hand.old }
     ensures goes { GoesOn T.layout tree.first tree.rows P.lent P.contents P.fault_count P.asked pages.old pages.new (fault_of result)
@@ -68,16 +103,8 @@ fn gather_page<T: TreeRow, P: Pages>(
         Ok(()) => {}
         Err(fault) => return Err(fault),
     }
-    let from = if at == run.first {
-        rows_before::<T>(&hand.buf, hand.count, &range.0)
-    } else {
-        0
-    };
-    let to = if at + 1 == run.end {
-        rows_up_to::<T>(&hand.buf, hand.count, &range.1)
-    } else {
-        hand.count
-    };
+    let from = first_row::<T>(hand, run, at, &range.0);
+    let to = end_row::<T>(hand, run, at, &range.1);
     push_rows(hand, from, to, out)
 }
 
