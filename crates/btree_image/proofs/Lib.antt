@@ -18,3 +18,4 @@ pub mod Shown
 pub mod Ranks
 pub mod Narrowed
 pub mod Gathered
+pub mod MetRanges

@@ -33,7 +33,7 @@ same_run f f2 e e2 p q = rw (p, q) refl
 
 module _ {T K : Type 0} (l : Layout T K) (o : IsKeyOrder l.order) (a : 1 ≤ most_rows l.leaf) (b : 2 ≤ most_rows l.inner)
     (rows : ℕ) (list : List T) (is : IsList l rows list) where
-  span-some : (level : ℕ) → 0 < span (shape_of l (length list)) level
+  pub span-some : (level : ℕ) → 0 < span (shape_of l (length list)) level
   span-some level = span-pos (shape_of l (length list)) a (omega arith) level
 
   pub end-some : (key : K) (level : ℕ) → 0 < rank l list key → end_of_key l list key level ≡ place_of_key l list key level + 1
@@ -67,6 +67,14 @@ module _ {T K : Type 0} (l : Layout T K) (o : IsKeyOrder l.order) (a : 1 ≤ mos
             omega arith)
       ] in
       same_run 0 _ 0 _ (sym (place-none range.0 level (omega arith))) (sym (end-none range.1 level none))
+
+  -- a range's own run is one
+  pub leads-own : (level : ℕ) (range : K × K) → Leads l list level range (run_of l list level range)
+  leads-own level range = record {
+    first_is = refl;
+    end_is = λ some. refl;
+    none = λ none. let e = end-none range.1 level none in omega arith;
+  }
 
   -- the last page of a run is that of its greatest key
   pub last_place : (level : ℕ) (range : K × K) (run : Run) → Leads l list level range run → run.first < run.end → run.end - 1 ≡ place_of_key l list range.1 level
