@@ -235,7 +235,7 @@ module _ {T K : Type 0} (l : Layout T K) (o : IsKeyOrder l.order) (a : 1 ≤ mos
     walk-from : (ranges : List (K × K)) → AreRanges l.order ranges → (next : ℕ) → next ≤ level_size (shape_of l rows) level
         → filter (any_met ranges) (numbers next (level_size (shape_of l rows) level - next)) ≡ walk next (map (run_of l list level) ranges)
     unfolding walk
-    walk-from [] are next h = filter-none (any_met []) _ (λ i d k. refl)
+    walk-from [] are next h = filter-none (any_met []) (numbers next (level_size (shape_of l rows) level - next)) (λ i d k. refl)
     walk-from (r ∷ rs) are next h =
         let size = level_size (shape_of l rows) level in
         let first = place_of_key l list r.0 level in
