@@ -11,7 +11,7 @@ use Rattle.page_codec.specs.declared.faults.PageFault.TheVariants.{Failed, Damag
 use Rattle.btree_image.specs.Rows.{Layout}
 use Rattle.btree_image.specs.Image.{IsShown}
 use Rattle.btree_image.specs.Damage.{IsDamaged}
-use Rattle.btree_image.specs.Asked.{given, given_but_last, EndsWith}
+use Rattle.btree_image.specs.Asked.{given, given_but_last, EndsWith, GoesBy, Went}
 use Rattle.btree_image.specs.Walks.{reads_by, StopsOn, GoesAlong, OnDamaged, OnFailed, GoesOn, fault_of}
 use Rattle.btree_image.proofs.Trail.{given-append}
 
@@ -231,3 +231,25 @@ module _ {T K S : Type 0} {l : Layout T K} {at rows : ℕ} {lent : S → ℕ →
 pub on_ok : {X E : Type 0} (result : Result X E) (P Q : Type 0) → (P → Q) → OnOk result P → OnOk result Q
 on_ok (Ok x) P Q f p = f p
 on_ok (Err e) P Q f p = tt
+
+pub ok_always : {X E : Type 0} (result : Result X E) (P : Type 0) → P → OnOk result P
+ok_always (Ok x) P p = p
+ok_always (Err e) P p = tt
+
+-- a whole way is gone along
+pub along-whole : (fault : Option PageFault) (pages way : List ℕ) → pages ≡ way → GoesAlong fault pages way
+along-whole None pages way e = e
+along-whole (Some fault) pages way e = ([], append-nil pages ∙ e)
+
+-- the first few of the first few
+pub along-by : {X : Type 0} (result : Result X PageFault) (pages way whole : List ℕ) → GoesAlong (fault_of result) pages way → GoesAlong (fault_of result) way whole → GoesBy result pages whole
+along-by (Ok x) pages way whole a b = a ∙ b
+along-by (Err fault) pages way whole a b = (a.0 ++ b.0, sym (append_assoc pages a.0 b.0) ∙ (ap (λ xs. xs ++ b.0) a.1 ∙ b.1))
+
+-- as for a whole scan
+pub went-along : {X : Type 0} (lent : ℕ → Bool) (asked : List (ℕ × Bool) → Type 0) (result : Result X PageFault) (pages : List ℕ)
+    → asked (reads_by (fault_of result) pages) → All (λ page. IsTrue (lent page)) pages → StopsOn (fault_of result) [] pages → Went lent asked result pages
+went-along lent asked (Ok x) pages a b c = record { asked_for = a; are_lent = b; stops = tt }
+went-along lent asked (Err Failed) pages a b c = record { asked_for = a; are_lent = b; stops = c }
+went-along lent asked (Err (Damaged page)) pages a b c = record { asked_for = a; are_lent = b; stops = c }
+went-along lent asked (Err OutOfMemory) pages a b c = record { asked_for = a; are_lent = b; stops = tt }

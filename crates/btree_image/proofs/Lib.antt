@@ -19,3 +19,5 @@ pub mod Ranks
 pub mod Narrowed
 pub mod Gathered
 pub mod MetRanges
+pub mod Once
+pub mod Visits

@@ -23,7 +23,7 @@ use Rattle.btree_image.proofs.Narrowed.{end-some, end-none, end-inside, span-som
 use Rattle.btree_image.proofs.Children.{stands, Stands}
 use Rattle.btree_image.proofs.Places.{numbers-then, behind-some, places-none, unmoved}
 
-filter-none : {X : Type 0} (p : X → Bool) (xs : List X) → All (λ x. p x ≡ false) xs → filter p xs ≡ []
+pub filter-none : {X : Type 0} (p : X → Bool) (xs : List X) → All (λ x. p x ≡ false) xs → filter p xs ≡ []
 filter-none p [] h = refl
 filter-none p (x ∷ xs) h = rw (h 0 x (omega arith)) (filter-none p xs (λ i d k. h (suc i) d (omega arith)))
 
@@ -41,7 +41,7 @@ filter-same p q (x ∷ xs) h =
     ]
 
 -- numbers by their bounds
-within : (P : ℕ → Type 0) (from n : ℕ) → ((c : ℕ) → from ≤ c → c < from + n → P c) → All P (numbers from n)
+pub within : (P : ℕ → Type 0) (from n : ℕ) → ((c : ℕ) → from ≤ c → c < from + n → P c) → All P (numbers from n)
 unfolding numbers
 within P from zero h i d k = absurd (omega arith)
 within P from (suc n) h zero d k = h from (omega arith) (omega arith)

@@ -1,6 +1,6 @@
 //! A scan of ranges of keys, level by level, with one page in hand.
 
-ghost use Rattle.std.specs.Prelude.{◌≡◌, ◌≢◌, ℕ, suc, [], ◌++◌, ◌+◌, ◌<◌, ◌≤◌, List, length, AllPairs, OnErr, IfErr, MatchResult, ◌⊎◌};
+ghost use Rattle.std.specs.Prelude.{◌≡◌, ◌≢◌, ℕ, suc, [], ◌++◌, ◌+◌, ◌<◌, ◌≤◌, List, length, replicate, AllPairs, OnOk, OnErr, IfErr, MatchResult, ◌⊎◌};
 ghost use Rattle.dev_model.specs.Counts.{Rose};
 ghost use Rattle.dev_model.specs.Story.{WhereTold};
 ghost use Rattle.page_codec.specs.declared.faults.PageFault.TheVariants.{Failed, Damaged, OutOfMemory};
@@ -28,7 +28,13 @@ fn scan_levels<T: TreeRow, P: Pages>(
     runs: &mut [Run],
     out: &mut Vec<T>,
 ) -> Result<(), PageFault>
-    requires { AreLent T.layout (P.lent pages.old) tree.first tree.rows }
+    requires lent { AreLent T.layout (P.lent pages.old) tree.first tree.rows }
+    requires runs { runs.old ≡ replicate (length ranges.now) (record { first = 0; end = 1 }) }
+    ensures way { (way : List ℕ) × GoesOn T.layout tree.first tree.rows P.lent P.contents P.fault_count P.asked pages.old pages.new (fault_of result) [] way × AllPairs (λ a b. a ≢ b) way
+        × ((list : List T) (root : ℕ) → IsShown T.layout (P.contents pages.old) tree.first tree.rows list → AreRanges T.layout.order ranges.now → IsRoot (shape_of T.layout tree.rows) root
+        → GoesAlong (fault_of result) way (visited_pages T.layout list ranges.now tree.first root)) }
+    ensures adds { (added : List T) × (out.new.items ≡ out.old.items ++ added)
+        × ((list : List T) → IsShown T.layout (P.contents pages.old) tree.first tree.rows list → AreRanges T.layout.order ranges.now → OnOk result (added ≡ rows_met T.layout list ranges.now)) }
 {
     let mut hand = InHand {
         next: 0,
@@ -57,14 +63,17 @@ fn scan_runs<T: TreeRow, P: Pages>(
     ranges: &[(T::Key, T::Key)],
     out: &mut Vec<T>,
 ) -> Result<(), PageFault>
-    requires { AreLent T.layout (P.lent pages.old) tree.first tree.rows }
+    requires lent { AreLent T.layout (P.lent pages.old) tree.first tree.rows }
+    ensures way { (way : List ℕ) × GoesOn T.layout tree.first tree.rows P.lent P.contents P.fault_count P.asked pages.old pages.new (fault_of result) [] way × AllPairs (λ a b. a ≢ b) way
+        × ((list : List T) (root : ℕ) → IsShown T.layout (P.contents pages.old) tree.first tree.rows list → AreRanges T.layout.order ranges.now → IsRoot (shape_of T.layout tree.rows) root
+        → GoesAlong (fault_of result) way (visited_pages T.layout list ranges.now tree.first root)) }
+    ensures adds { (added : List T) × (out.new.items ≡ out.old.items ++ added)
+        × ((list : List T) → IsShown T.layout (P.contents pages.old) tree.first tree.rows list → AreRanges T.layout.order ranges.now → OnOk result (added ≡ rows_met T.layout list ranges.now)) }
 {
     let mut runs = Vec::new(*out.allocator());
-    if runs
-        .resize(ranges.len(), Run { first: 0, end: 1 })
-        .is_err()
-    {
-        return Err(PageFault::OutOfMemory);
+    match runs.resize(ranges.len(), Run { first: 0, end: 1 }) {
+        Ok(()) => {}
+        Err(_) => return Err(PageFault::OutOfMemory),
     }
     scan_levels(pages, tree, ranges, &mut runs, out)
 }
