@@ -1,5 +1,6 @@
 use Rattle.std.proofs.Common.{◌≡◌, ◌≢◌, ℕ, ◌+◌, ◌-◌, ◌<◌, ◌≤◌, ◌++◌, suc, [], ◌∷◌, Some, None, List, map, length, All, arith, refl, sym, ◌∙◌, ap, subst, append_assoc}
 use Rattle.std.proofs.lemmas.List.{append-nil}
+use Rattle.std.proofs.lemmas.Bool.{eqb-true, eqb-false}
 use Rattle.btree_image.specs.declared.runs.Run.{Run}
 use Rattle.btree_image.specs.Shape.{level_size, level_start, IsRoot}
 use Rattle.btree_image.specs.Image.{shape_of, page_number, IsShown}
@@ -18,7 +19,7 @@ returns-then-is_empty-clause-way g c =
     let l = g.T.TreeRow.layout in
     let k = g.met.T.TreeRow.kinds in
     let number = page_number l c.args.tree.first c.args.tree.rows c.root_level-level.result in
-    let empty : length c.args.ranges.now ≡ 0 = let e = c.if-is_empty.ensures in omega arith in
+    let empty : length c.args.ranges.now ≡ 0 = eqb-true (length c.args.ranges.now) 0 (sym c.if-is_empty.ensures) in
     (number 0 ∷ [], goes-same (sym (place-one number 0 0 (omega arith))) c.reach.ensures.goes, (λ i j d lt k. absurd (omega arith)),
     λ list root shown ascend at_root. along-whole (fault_of c.reach.result) _ _
     (ap (λ n. page_number l c.args.tree.first c.args.tree.rows n 0 ∷ []) (root_unique (shape_of l c.args.tree.rows) c.root_level-level.result root c.root_level-level.ensures.root at_root)
@@ -28,7 +29,7 @@ pub returns-then-is_empty-clause-adds : goal.returns-then-is_empty-clause-adds
 returns-then-is_empty-clause-adds g c =
     let l = g.T.TreeRow.layout in
     let k = g.met.T.TreeRow.kinds in
-    let empty : length c.args.ranges.now ≡ 0 = let e = c.if-is_empty.ensures in omega arith in
+    let empty : length c.args.ranges.now ≡ 0 = eqb-true (length c.args.ranges.now) 0 (sym c.if-is_empty.ensures) in
     ([], sym (append-nil c.args.out.now.items), λ list shown ascend. ok_always c.reach.result _
     (rows-none l k.key_order (leaf_room l _ _ _ k) (inner_room l _ _ _ k) c.args.tree.rows list shown.is c.args.tree.first c.args.ranges.now empty))
 
@@ -38,7 +39,7 @@ loop-level-init g c =
     let k = g.met.T.TreeRow.kinds in
     let root = c.root_level-level.ensures.root in
     let s = shape_of l c.args.tree.rows in
-    let some : 0 < length c.args.ranges.now = let e = c.if-is_empty.ensures in omega arith in
+    let some : 0 < length c.args.ranges.now = let e = eqb-false (length c.args.ranges.now) 0 (sym c.if-is_empty.ensures) in omega (arith, e) in
     record {
       low = c.root_level-level.ensures.low;
       up_to_root = root.lowest;
