@@ -253,3 +253,14 @@ went-along lent asked (Ok x) pages a b c = record { asked_for = a; are_lent = b;
 went-along lent asked (Err Failed) pages a b c = record { asked_for = a; are_lent = b; stops = c }
 went-along lent asked (Err (Damaged page)) pages a b c = record { asked_for = a; are_lent = b; stops = c }
 went-along lent asked (Err OutOfMemory) pages a b c = record { asked_for = a; are_lent = b; stops = tt }
+
+-- on a shown tree a refusal is no damage
+pub fault-told : (fault : PageFault) (P : Type 0) → P → OnDamaged (Some fault) (λ page. P → ⊥) → (fault ≡ Failed) ⊎ (fault ≡ OutOfMemory)
+fault-told Failed P p never = inl refl
+fault-told (Damaged page) P p never = absurd (never p)
+fault-told OutOfMemory P p never = inr refl
+
+pub sound-at : {T : Type 0} (fault : PageFault) (P : List T → Type 0) (list : List T) → OnDamaged (Some fault) (λ page. (list : List T) → P list → ⊥) → OnDamaged (Some fault) (λ page. P list → ⊥)
+sound-at Failed P list never = tt
+sound-at (Damaged page) P list never = never list
+sound-at OutOfMemory P list never = tt
