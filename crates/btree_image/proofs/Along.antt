@@ -4,7 +4,7 @@ use Rattle.std.specs.Prelude.{IsTrue, Result, Ok, Err, IfErr, OnOk, ◌⊎◌}
 use Rattle.std.proofs.lemmas.List.{append-nil}
 use Rattle.std.proofs.lemmas.Bool.{cases_Bool, ltb-true, ltb-false}
 use Rattle.std.proofs.lemmas.List.Elements.{All-append, All-cons}
-use Rattle.dev_model.specs.Counts.{Rose, next_count}
+use Rattle.dev_model.specs.Counts.{Rose}
 use Rattle.dev_model.specs.Story.{WhereTold}
 use Rattle.page_codec.specs.declared.faults.PageFault.{PageFault}
 use Rattle.page_codec.specs.declared.faults.PageFault.TheVariants.{Failed, Damaged, OutOfMemory}

@@ -1,7 +1,7 @@
 -- What a leaf tells of the rows of a range.
-use Rattle.std.proofs.Common.{◌≡◌, ◌≢◌, ℕ, zero, suc, ◌+◌, ◌-◌, ◌*◌, ◌/◌, ◌<◌, ◌≤◌, min, max, Bool, true, false, not, List, [], ◌∷◌, ◌++◌, take, drop, map, length, get_or, All, Some, arith, refl, sym, ◌∙◌, ap, subst, inl, inr, if◌then◌else◌, get_or-drop, length-drop, length-take}
+use Rattle.std.proofs.Common.{◌≡◌, ◌≢◌, ℕ, suc, ◌+◌, ◌-◌, ◌*◌, ◌<◌, ◌≤◌, min, max, true, false, not, List, [], ◌∷◌, ◌++◌, take, drop, map, length, get_or, All, Some, arith, refl, sym, ◌∙◌, ap, subst, inl, inr, if◌then◌else◌, get_or-drop, length-drop, length-take}
 use Rattle.std.specs.Prelude.{slice_index_or}
-use Rattle.std.proofs.Math.Nat.{div-mul-le_self, mul-le-mul_left, lt-div-mul-add}
+use Rattle.std.proofs.Math.Nat.{mul-le-mul_left}
 use Rattle.std.proofs.Math.Seq.{take-add}
 use Rattle.std.proofs.lemmas.Bool.{cases_lt, cases_eq}
 use Rattle.std.proofs.lemmas.List.{take-take, drop-drop, drop-take, take_more, take-map, drop-map, length-map}
@@ -11,16 +11,15 @@ use Rattle.std.specs.declared.cmp.Ordering.TheVariants.{Greater}
 use Rattle.page_codec.specs.Page.{most_rows, rows_on, row_count, ShowsRows}
 use Rattle.btree_image.specs.declared.runs.Run.{Run}
 use Rattle.btree_image.specs.Rows.{Layout, IsKeyOrder, IsStored}
-use Rattle.btree_image.specs.Image.{shape_of, level_rows, IsList}
+use Rattle.btree_image.specs.Image.{level_rows, IsList}
 use Rattle.btree_image.specs.Descent.{rank, place_of_key}
 use Rattle.btree_image.specs.Steps.{reaches, precedes, IsLastUpTo}
-use Rattle.btree_image.specs.Walks.{rank_below, end_of_key, part, rows_of, Leads}
+use Rattle.btree_image.specs.Walks.{rank_below, part, rows_of, Leads}
 use Rattle.btree_image.proofs.OnPage.{length-rows_on}
-use Rattle.btree_image.proofs.Covers.{span-zero}
 use Rattle.btree_image.proofs.Rank.{rank-le, at_most-below, greater-from}
 use Rattle.btree_image.proofs.Ranks.{below-rank, below-passes, below-stops, rank-next}
 use Rattle.btree_image.proofs.Narrowed.{end-some, place-none, last_place}
-use Rattle.btree_image.proofs.Children.{stands, Stands, not_greater}
+use Rattle.btree_image.proofs.Children.{stands, not_greater}
 use Rattle.btree_image.proofs.Leaf.{leaf-low, leaf-high}
 use Rattle.btree_image.proofs.Told.{leaf_place, leaf_count, key_there, no_rows}
 

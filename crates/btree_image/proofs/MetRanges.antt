@@ -1,5 +1,5 @@
 -- The pages and the rows that ranges meet, range by range.
-use Rattle.std.proofs.Common.{◌≡◌, ◌≢◌, ℕ, zero, suc, ◌+◌, ◌-◌, ◌*◌, ◌/◌, ◌<◌, ◌≤◌, min, max, Bool, true, false, not, ◌&&◌, List, [], ◌∷◌, ◌++◌, take, drop, map, filter, length, get_or, slice_get, All, AllPairs, Some, None, arith, refl, sym, ◌∙◌, ap, subst, inl, inr, append_assoc, get_or-drop, get_or-take, length-drop, length-take}
+use Rattle.std.proofs.Common.{◌≡◌, ◌≢◌, ℕ, zero, suc, ◌+◌, ◌-◌, ◌*◌, ◌/◌, ◌<◌, ◌≤◌, min, max, Bool, true, false, not, ◌&&◌, List, [], ◌∷◌, ◌++◌, drop, map, filter, length, get_or, slice_get, All, None, arith, refl, sym, ◌∙◌, ap, subst, inl, inr, get_or-drop, get_or-take, length-drop, length-take}
 use Rattle.std.specs.List.{list_any, flat_map}
 use Rattle.std.proofs.Math.Nat.{div-mul-le_self, mul-le-mul_left}
 use Rattle.std.proofs.lemmas.Bool.{cases_Bool, cases_lt}
@@ -9,18 +9,17 @@ use Rattle.std.specs.Ordering.{is_gt, is_lt, ordering_reverse}
 use Rattle.std.specs.declared.cmp.Ordering.{Ordering}
 use Rattle.std.specs.declared.cmp.Ordering.TheVariants.{Less, Equal, Greater}
 use Rattle.page_codec.specs.Page.{most_rows}
-use Rattle.btree_image.specs.declared.runs.Run.{Run}
-use Rattle.btree_image.specs.Shape.{Shape, level_size, span}
+use Rattle.btree_image.specs.Shape.{level_size, span}
 use Rattle.btree_image.specs.Rows.{Layout, IsKeyOrder}
 use Rattle.btree_image.specs.Image.{shape_of, numbers, IsList}
 use Rattle.btree_image.specs.Descent.{rank, place_of_key}
 use Rattle.btree_image.specs.Visited.{AreRanges, begins_before, reaches_row, is_inside, rows_met, is_met}
-use Rattle.btree_image.specs.Walks.{rank_below, end_of_key, run_of, part, rows_of, places_in, next_behind, walk}
+use Rattle.btree_image.specs.Walks.{rank_below, end_of_key, run_of, part, rows_of, next_behind, walk}
 use Rattle.btree_image.proofs.Covers.{past_quotient, child_reached}
 use Rattle.btree_image.proofs.Rank.{rank-le, at_most-below, greater-from}
 use Rattle.btree_image.proofs.Ranks.{isnt_greater, rank-mono, rank-before, below-rank, below-passes, below-stops}
 use Rattle.btree_image.proofs.Narrowed.{end-some, end-none, end-inside, span-some, run-follows, leads-own}
-use Rattle.btree_image.proofs.Children.{stands, Stands}
+use Rattle.btree_image.proofs.Children.{stands}
 use Rattle.btree_image.proofs.Places.{numbers-then, behind-some, places-none, unmoved}
 
 pub filter-none : {X : Type 0} (p : X → Bool) (xs : List X) → All (λ x. p x ≡ false) xs → filter p xs ≡ []
@@ -140,7 +139,7 @@ module _ {T K : Type 0} (l : Layout T K) (o : IsKeyOrder l.order) (a : 1 ≤ mos
       let later : All (λ range. high ≤ rank_below l list range.0) rs = λ i d k. rank-before l o list r.1 (get_or rs i d).0 (are.apart 0 (suc i) d (omega arith) (omega arith)) in
       let test = any_inside (r ∷ rs) in
       let none = filter-none test (part list n low) (rows-hold (λ row. test row ≡ false) n low (λ p d f t inside.
-          any-none (λ range. is_inside l range (get_or list p d)) (r ∷ rs) (λ i e k. outside p d t i e k))) in
+      any-none (λ range. is_inside l range (get_or list p d)) (r ∷ rs) (λ i e k. outside p d t i e k))) in
       let all = filter-all test (part list low high) (rows-hold (λ row. test row ≡ true) low high (λ p d f t inside. rw (inside-yes r p d f t inside) refl)) in
       let rest = filter-same test (any_inside rs) (drop high list) (rest-hold (λ row. test row ≡ any_inside rs row) high (λ p d f inside. rw (inside-high r p d f inside) refl)) in
       ap (filter test) (split-rows n low high begin forward)

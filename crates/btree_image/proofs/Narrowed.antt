@@ -1,5 +1,5 @@
 -- What a page above the leaves tells of the run of a range.
-use Rattle.std.proofs.Common.{◌≡◌, ◌≢◌, ℕ, suc, ◌+◌, ◌-◌, ◌*◌, ◌/◌, ◌<◌, ◌≤◌, min, Bool, true, false, Option, List, [], map, length, get_or, arith, refl, sym, ◌∙◌, ap, subst, inl, inr, nat_lt, if◌then◌else◌}
+use Rattle.std.proofs.Common.{◌≡◌, ◌≢◌, ℕ, suc, ◌+◌, ◌-◌, ◌*◌, ◌/◌, ◌<◌, ◌≤◌, min, Option, List, [], length, arith, refl, sym, ◌∙◌, ap, inl, inr, nat_lt, if◌then◌else◌}
 use Rattle.std.specs.Prelude.{slice_index_or}
 use Rattle.std.proofs.Math.Nat.{div-mul-le_self, zero-div}
 use Rattle.std.proofs.lemmas.Bool.{cases_lt, lt-ltb, le-ltb}
@@ -17,7 +17,6 @@ use Rattle.btree_image.specs.Steps.{reaches, IsLastUpTo}
 use Rattle.btree_image.specs.Walks.{end_of_key, run_of, Leads, IsInHand}
 use Rattle.btree_image.proofs.Numbers.{length-numbers}
 use Rattle.btree_image.proofs.Covers.{span-pos, up_to_quotient}
-use Rattle.btree_image.proofs.Rank.{rank-le}
 use Rattle.btree_image.proofs.Ranks.{rank-mono, isnt_greater, ceil-some, ceil-none}
 use Rattle.btree_image.proofs.Children.{child_at, level_rows-children, row_at_place, reaches-up_to, reaches-none}
 use Rattle.btree_image.proofs.Told.{place-above, place-inside, in_page, shown_read, rows_above}
@@ -157,7 +156,7 @@ module _ {T K : Type 0} (l : Layout T K) (o : IsKeyOrder l.order) (a : 1 ≤ mos
       → (first end size : ℕ) → size ≡ level_size (shape_of l rows) level
       → ((place : ℕ) → IsLastUpTo l range.0 (rows_on left.buf) place → first ≡ at * most_rows l.inner + place)
       → ((place : ℕ) → IsLastUpTo l range.1 (rows_on right.buf) place
-          → end ≡ min (last * most_rows l.inner + (if reaches l range.1 (slice_index_or (rows_on right.buf) place []) then place + 1 else place)) size)
+      → end ≡ min (last * most_rows l.inner + (if reaches l range.1 (slice_index_or (rows_on right.buf) place []) then place + 1 else place)) size)
       → record { first = first; end = end } ≡ run_of l list level range
   run-told start contents shown level up_to_root range run leads some at left in_left at_is last right in_right last_is first end size size_is firsts ends =
       let place : IsPlace (shape_of l rows) (suc level) at = record { inside = in_left.inside; up_to_root = up_to_root } in

@@ -1,5 +1,5 @@
 -- The places that a walk over a level reads.
-use Rattle.std.proofs.Common.{◌≡◌, ℕ, zero, suc, ◌+◌, ◌-◌, ◌<◌, ◌≤◌, max, Bool, true, false, List, [], ◌∷◌, ◌++◌, map, drop, length, get_or, set, subst, arith, refl, sym, ◌∙◌, ap, inl, inr, nat_lt, if◌then◌else◌, append_assoc}
+use Rattle.std.proofs.Common.{◌≡◌, ℕ, zero, suc, ◌+◌, ◌-◌, ◌<◌, ◌≤◌, max, List, [], ◌∷◌, ◌++◌, map, drop, length, get_or, set, subst, arith, refl, sym, ◌∙◌, ap, inl, inr, append_assoc}
 use Rattle.std.proofs.lemmas.Bool.{cases_lt, cases_eq, lt-ltb, le-ltb}
 use Rattle.std.proofs.lemmas.List.{drop_more, drop_all, append-nil, map-append, get_or-set_same, get_or-set_other}
 use Rattle.btree_image.specs.declared.runs.Run.{Run}
@@ -57,6 +57,7 @@ place-one number next at h =
     let n : max at next ≡ at = omega arith in
     let one : suc at - at ≡ 1 = omega arith in
     sym (ap (map number) (ap (λ x. numbers x (suc at - x)) n ∙ ap (numbers at) one) ∙ numbers-one number at)
+
 pub place-passed : (number : ℕ → ℕ) (next at : ℕ) → at < next → [] ≡ map number (places_in next at (suc at))
 place-passed number next at h = sym (ap (map number) (places-none next at (suc at) (omega arith)))
 
@@ -184,12 +185,13 @@ module _ {T K : Type 0} (l : Layout T K) (first rows level : ℕ) where
         let e : max next end ≡ suc (max from next + m) = omega arith in
         let behind : next_behind next from end ≡ suc (max from next + m) = behind-some next from end (omega arith) ∙ e in
         let places : places_in next from end ≡ numbers (max from next) m ++ numbers (max from next + m) 1 =
-        sym (numbers-append (max from next) m 1 ∙ ap (numbers (max from next)) (omega arith)) in
-        (holding next ++ map number (numbers (max from next) m),
-        ap (λ xs. holding next ++ map number xs) places
-        ∙ (ap (λ xs. holding next ++ xs) (map-append number (numbers (max from next) m) (numbers (max from next + m) 1))
-        ∙ (sym (append_assoc (holding next) (map number (numbers (max from next) m)) (map number (numbers (max from next + m) 1)))
-        ∙ ap (λ xs. (holding next ++ map number (numbers (max from next) m)) ++ xs) (numbers-one number (max from next + m) ∙ ap holding (sym behind))))))
+        sym (numbers-append (max from next) m 1 ∙ ap (numbers (max from next)) (omega arith)) in (
+          holding next ++ map number (numbers (max from next) m),
+          ap (λ xs. holding next ++ map number xs) places
+              ∙ (ap (λ xs. holding next ++ xs) (map-append number (numbers (max from next) m) (numbers (max from next + m) 1))
+              ∙ (sym (append_assoc (holding next) (map number (numbers (max from next) m)) (map number (numbers (max from next + m) 1)))
+              ∙ ap (λ xs. (holding next ++ map number (numbers (max from next) m)) ++ xs) (numbers-one number (max from next + m) ∙ ap holding (sym behind)))),
+        ))
   ]
 
 -- a place of a list, whatever stands for one outside

@@ -1,10 +1,10 @@
 -- What a page of a shown tree has.
-use Rattle.std.proofs.Common.{◌≡◌, ℕ, zero, suc, ◌+◌, ◌-◌, ◌*◌, ◌<◌, ◌≤◌, min, List, length, map, arith, sym, ◌∙◌, ap, subst}
+use Rattle.std.proofs.Common.{◌≡◌, ℕ, zero, suc, ◌-◌, ◌*◌, ◌<◌, ◌≤◌, min, List, length, arith, sym, ◌∙◌, ap, subst}
 use Rattle.std.proofs.Math.Nat.{mul-le-mul_left}
 use Rattle.std.proofs.lemmas.Grind.{div_ceil_times}
 use Rattle.std.proofs.lemmas.List.{length-map}
 use Rattle.std.specs.Int.{div_ceil}
-use Rattle.page_codec.specs.Page.{most_rows, row_count, rows_on, IsPage, ShowsRows}
+use Rattle.page_codec.specs.Page.{most_rows, row_count, IsPage, ShowsRows}
 use Rattle.btree_image.specs.Shape.{level_size, IsPlace}
 use Rattle.btree_image.specs.Rows.{Layout}
 use Rattle.btree_image.specs.Image.{shape_of, level_rows, level_kind, IsList, numbers, child_row}

@@ -3,8 +3,8 @@
 #![tactic(auto)]
 
 mod descend;
-mod hand;
 mod gather;
+mod hand;
 mod in_page;
 mod levels;
 mod load;

@@ -1,10 +1,10 @@
-use Rattle.std.proofs.Common.{◌≡◌, ◌≢◌, ℕ, ◌+◌, ◌-◌, ◌<◌, ◌≤◌, ◌++◌, suc, [], ◌∷◌, Some, None, List, map, drop, length, get_or, arith, refl, sym, ◌∙◌, ap, subst, append_assoc}
+use Rattle.std.proofs.Common.{◌≡◌, ℕ, ◌+◌, ◌-◌, ◌≤◌, ◌++◌, suc, [], Some, None, List, map, drop, get_or, arith, refl, sym, ◌∙◌, ap, subst, append_assoc}
 use Rattle.std.specs.List.{flat_map}
 use Rattle.std.proofs.lemmas.List.{append-nil, drop_more, drop_all}
 use Rattle.std.specs.declared.cmp.Ordering.TheVariants.{Less}
 use Rattle.btree_image.specs.declared.runs.Run.{Run}
 use Rattle.btree_image.specs.Image.{page_number, IsShown}
-use Rattle.btree_image.specs.Walks.{IsInHand, in_hand, places_in, next_behind, walk, Leads, rows_of}
+use Rattle.btree_image.specs.Walks.{IsInHand, in_hand, places_in, walk, Leads, rows_of}
 use Rattle.btree_image.proofs.Widths.{leaf_room, inner_room}
 use Rattle.btree_image.proofs.Along.{goes-then, goes-short, goes-same, goes-nowhere}
 use Rattle.btree_image.proofs.Places.{pages-next, pages-done, walk-next, behind-most, hand-follows}
@@ -63,9 +63,12 @@ returns-clause-adds g c =
     let l = g.T.TreeRow.layout in
     let inv = c.loop-i.invariant in
     let same = c.requires.same_count in
-    let test = c.loop-i-test.false in
-    (inv.added, inv.out, λ list shown ascend lead.
-        sym (append-nil inv.added) ∙ (sym (ap (λ xs. inv.added ++ flat_map (rows_of l list) xs) (drop_all c.loop-i.i c.args.ranges.now (omega arith))) ∙ inv.told list shown ascend lead))
+    let test = c.loop-i-test.false in (
+      inv.added,
+      inv.out,
+      λ list shown ascend lead.
+          sym (append-nil inv.added) ∙ (sym (ap (λ xs. inv.added ++ flat_map (rows_of l list) xs) (drop_all c.loop-i.i c.args.ranges.now (omega arith))) ∙ inv.told list shown ascend lead),
+    )
 
 pub loop-i-preserved : goal.loop-i-preserved
 loop-i-preserved g c =

@@ -1,16 +1,13 @@
-use Rattle.std.proofs.Common.{◌≡◌, ℕ, zero, ◌+◌, ◌-◌, ◌*◌, ◌≤◌, ◌++◌, max, min, suc, [], ◌∷◌, Some, None, map, take, drop, arith, refl, sym, ◌∙◌, ap, subst}
-use Rattle.std.specs.Prelude.{List}
+use Rattle.std.proofs.Common.{◌≡◌, ◌-◌, [], Some, None, arith, refl, sym, ◌∙◌, subst}
 use Rattle.std.proofs.lemmas.List.{append-nil}
-use Rattle.page_codec.specs.Page.{most_rows, rows_on}
-use Rattle.btree_image.specs.Asked.{EndsWith}
+use Rattle.page_codec.specs.Page.{rows_on}
 use Rattle.btree_image.specs.Damage.{AllReadable}
-use Rattle.btree_image.specs.Descent.{rank}
-use Rattle.btree_image.specs.Image.{page_number, shape_of}
+use Rattle.btree_image.specs.Image.{shape_of}
 use Rattle.btree_image.specs.Shape.{IsPlace}
-use Rattle.btree_image.specs.Walks.{IsInHand, in_hand, places_in, part, rank_below}
+use Rattle.btree_image.specs.Walks.{IsInHand, in_hand}
 use Rattle.btree_image.proofs.Widths.{leaf_room, inner_room}
 use Rattle.btree_image.proofs.Along.{goes-holding, goes-copied, on_ok}
-use Rattle.btree_image.proofs.Places.{hand-follows, behind-some, hand-ends}
+use Rattle.btree_image.proofs.Places.{hand-ends}
 use Rattle.btree_image.proofs.Told.{shown_read, damaged_at, readable}
 use Rattle.btree_image.proofs.Gathered.{copied, shown_rows, from-told, to-told, short}
 use Rattle.btree_image.proofs.gather.gather_page.Goals as goal
@@ -40,21 +37,24 @@ returns-clause-adds g c =
     let k = g.met.T.TreeRow.kinds in
     let a = leaf_room l _ _ _ k in
     let b = inner_room l _ _ _ k in
-    let adds = c.push_rows.ensures.adds in
-    (adds.0, adds.1, λ list shown leads near from before.
-        let next = c.in-Ok.ensures.next in
-        let here : c.reach.new.hand.next - 1 ≡ c.args.at = omega arith in
-        let held = subst (λ n. IsInHand l c.args.tree.first c.args.tree.rows (g.P.Pages.contents c.args.pages.now) 0 n c.reach.new.hand) here c.in-Ok.ensures.in_hand in
-        let place : IsPlace (shape_of l c.args.tree.rows) 0 c.args.at = record { inside = held.inside; up_to_root = λ j h. absurd (omega arith) } in
-        let bytes = c.reach.new.hand.buf in
-        let shows = shown_read l list c.args.tree.first c.args.tree.rows _ shown bytes 0 c.args.at place held.told in
-        let count = held.count in
-        let first = c.first_row-from.ensures in
-        let last = c.end_row-to.ensures in
-        let first_most = first.most in
-        let last_most = last.most in
-        let width = short l k.key_order a b c.args.tree.rows list shown.is c.args.at bytes shows in
-        let from_is = from-told l k.key_order a b c.args.tree.rows list shown.is c.args.range.now c.args.run c.args.at leads from bytes shows c.first_row-from.result (omega arith) first.first first.later in
-        let to_is = to-told l k.key_order a b c.args.tree.rows list shown.is c.args.range.now c.args.run c.args.at leads from before bytes shows c.end_row-to.result (omega arith) last.last (λ other. last.earlier other ∙ count) in
-        on_ok c.push_rows.result _ _ (λ read. copied l k.key_order a b c.args.tree.rows list shown.is c.args.at bytes (shown_rows l k.key_order a b c.args.tree.rows list shown.is c.args.at bytes shows)
-        c.first_row-from.result c.end_row-to.result _ _ (omega arith) from_is to_is adds.0 read) adds.2)
+    let adds = c.push_rows.ensures.adds in (
+      adds.0,
+      adds.1,
+      λ list shown leads near from before.
+          let next = c.in-Ok.ensures.next in
+          let here : c.reach.new.hand.next - 1 ≡ c.args.at = omega arith in
+          let held = subst (λ n. IsInHand l c.args.tree.first c.args.tree.rows (g.P.Pages.contents c.args.pages.now) 0 n c.reach.new.hand) here c.in-Ok.ensures.in_hand in
+          let place : IsPlace (shape_of l c.args.tree.rows) 0 c.args.at = record { inside = held.inside; up_to_root = λ j h. absurd (omega arith) } in
+          let bytes = c.reach.new.hand.buf in
+          let shows = shown_read l list c.args.tree.first c.args.tree.rows _ shown bytes 0 c.args.at place held.told in
+          let count = held.count in
+          let first = c.first_row-from.ensures in
+          let last = c.end_row-to.ensures in
+          let first_most = first.most in
+          let last_most = last.most in
+          let width = short l k.key_order a b c.args.tree.rows list shown.is c.args.at bytes shows in
+          let from_is = from-told l k.key_order a b c.args.tree.rows list shown.is c.args.range.now c.args.run c.args.at leads from bytes shows c.first_row-from.result (omega arith) first.first first.later in
+          let to_is = to-told l k.key_order a b c.args.tree.rows list shown.is c.args.range.now c.args.run c.args.at leads from before bytes shows c.end_row-to.result (omega arith) last.last (λ other. last.earlier other ∙ count) in
+          on_ok c.push_rows.result _ _ (λ read. copied l k.key_order a b c.args.tree.rows list shown.is c.args.at bytes (shown_rows l k.key_order a b c.args.tree.rows list shown.is c.args.at bytes shows)
+          c.first_row-from.result c.end_row-to.result _ _ (omega arith) from_is to_is adds.0 read) adds.2,
+    )

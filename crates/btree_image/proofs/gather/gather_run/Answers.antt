@@ -1,4 +1,4 @@
-use Rattle.std.proofs.Common.{◌≡◌, ℕ, ◌+◌, ◌-◌, ◌*◌, ◌<◌, ◌≤◌, ◌++◌, max, min, suc, [], Some, None, map, arith, refl, sym, ◌∙◌, ap, subst, append_assoc}
+use Rattle.std.proofs.Common.{◌-◌, ◌*◌, ◌≤◌, ◌++◌, max, min, suc, [], Some, None, map, arith, sym, ◌∙◌, ap, subst, append_assoc}
 use Rattle.std.proofs.lemmas.List.{append-nil}
 use Rattle.page_codec.specs.Page.{most_rows}
 use Rattle.btree_image.specs.Descent.{rank}
@@ -76,9 +76,12 @@ pub returns-clause-adds : goal.returns-clause-adds
 returns-clause-adds g c =
     let l = g.T.TreeRow.layout in
     let k = g.met.T.TreeRow.kinds in
-    let inv = c.loop-at.invariant in
-    (inv.added, inv.out, λ list shown leads near. inv.told list shown leads near
-    ∙ rows-all l k.key_order (leaf_room l _ _ _ k) (inner_room l _ _ _ k) c.args.tree.rows list shown.is c.args.range.now c.args.run c.loop-at.at leads inv.from c.loop-at-test.false inv.most)
+    let inv = c.loop-at.invariant in (
+      inv.added,
+      inv.out,
+      λ list shown leads near. inv.told list shown leads near
+          ∙ rows-all l k.key_order (leaf_room l _ _ _ k) (inner_room l _ _ _ k) c.args.tree.rows list shown.is c.args.range.now c.args.run c.loop-at.at leads inv.from c.loop-at-test.false inv.most,
+    )
 
 pub returns-clause-goes : goal.returns-clause-goes
 returns-clause-goes g c =

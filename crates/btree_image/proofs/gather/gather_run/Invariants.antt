@@ -1,4 +1,4 @@
-use Rattle.std.proofs.Common.{◌≡◌, ℕ, suc, ◌*◌, ◌≤◌, List, ◌++◌, None, map, min, max}
+use Rattle.std.proofs.Common.{◌≡◌, suc, ◌*◌, ◌≤◌, List, ◌++◌, None, map, min, max}
 use Rattle.page_codec.specs.Page.{most_rows}
 use Rattle.btree_image.specs.Image.{page_number, IsShown}
 use Rattle.btree_image.specs.Descent.{rank}

@@ -1,4 +1,4 @@
-use Rattle.std.proofs.Common.{◌≡◌, ◌+◌, ◌-◌, ◌++◌, [], ◌∷◌, Some, map, take, drop, length, get_or, arith, refl, sym, ◌∙◌, ap, inl, inr, append_assoc}
+use Rattle.std.proofs.Common.{◌≡◌, ◌-◌, ◌++◌, [], ◌∷◌, Some, map, take, drop, get_or, arith, refl, sym, ◌∙◌, ap, inr, append_assoc}
 use Rattle.std.proofs.lemmas.List.{map-append, append-nil}
 use Rattle.page_codec.specs.Page.{rows_on}
 use Rattle.btree_image.proofs.OnPage.{length-rows_on}

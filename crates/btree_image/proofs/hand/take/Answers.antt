@@ -1,4 +1,4 @@
-use Rattle.std.proofs.Common.{◌≡◌, ◌≤◌, [], ◌∷◌, arith, refl, sym, ap}
+use Rattle.std.proofs.Common.{◌≤◌, [], ◌∷◌, arith, refl, sym, ap}
 use Rattle.page_codec.specs.Page.{most_rows}
 use Rattle.btree_image.proofs.Widths.{inner_room}
 use Rattle.btree_image.proofs.Told.{shown_read, damaged_at}

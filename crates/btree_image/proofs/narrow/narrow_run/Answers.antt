@@ -1,10 +1,10 @@
-use Rattle.std.proofs.Common.{◌≡◌, ◌+◌, ◌-◌, ◌<◌, ◌≤◌, ◌^◌, max, suc, [], Some, None, map, arith, refl, sym, ◌∙◌, ap, subst}
+use Rattle.std.proofs.Common.{◌≡◌, ◌-◌, ◌<◌, suc, [], Some, None, map, arith, refl, sym, ◌∙◌, ap, subst}
 use Rattle.std.proofs.Math.Numerals.{add-one}
 use Rattle.btree_image.specs.Image.{page_number}
-use Rattle.btree_image.specs.Walks.{IsInHand, places_in}
+use Rattle.btree_image.specs.Walks.{IsInHand}
 use Rattle.btree_image.proofs.Widths.{leaf_room, inner_room}
 use Rattle.btree_image.proofs.Along.{goes-on, goes-short, goes-same, goes-nowhere}
-use Rattle.btree_image.proofs.Places.{places-none, behind-none, behind-all, behind-least, behind-some, run-all}
+use Rattle.btree_image.proofs.Places.{places-none, behind-least, behind-some, run-all}
 use Rattle.btree_image.proofs.Narrowed.{narrowed-none, run-told}
 use Rattle.btree_image.proofs.narrow.narrow_run.Goals as goal
 

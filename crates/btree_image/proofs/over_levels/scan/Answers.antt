@@ -1,4 +1,4 @@
-use Rattle.std.proofs.Common.{◌≡◌, ◌≢◌, ◌++◌, List, Some, sym, subst}
+use Rattle.std.proofs.Common.{◌≢◌, List, sym, subst}
 use Rattle.std.specs.Prelude.{AllPairs, Err}
 use Rattle.btree_image.specs.Image.{IsShown}
 use Rattle.btree_image.proofs.Along.{went-along, along-by, fault-told, sound-at}
@@ -14,7 +14,9 @@ returns-in-Err-clause-rows g c list shown ascend =
 pub returns-in-Err-clause-asked : goal.returns-in-Err-clause-asked
 returns-in-Err-clause-asked g c =
     let way = c.in-Err.ensures.way in
-    let goes = way.1 in
-    (goes.pages, went-along (g.P.Pages.lent c.args.pages.now) (g.P.Pages.asked c.args.pages.now c.scan_runs.new.pages) (Err c.in-Err.fault) goes.pages goes.asked_for goes.are_lent goes.stops,
-    pairs-front (λ a b. a ≢ b) goes.pages goes.along.0 (subst (AllPairs (λ a b. a ≢ b)) (sym goes.along.1) way.2),
-    λ list root shown ascend at_root. along-by {X = Unit {0}} (Err c.in-Err.fault) goes.pages way.0 _ goes.along (way.3 list root shown ascend at_root))
+    let goes = way.1 in (
+      goes.pages,
+      went-along (g.P.Pages.lent c.args.pages.now) (g.P.Pages.asked c.args.pages.now c.scan_runs.new.pages) (Err c.in-Err.fault) goes.pages goes.asked_for goes.are_lent goes.stops,
+      pairs-front (λ a b. a ≢ b) goes.pages goes.along.0 (subst (AllPairs (λ a b. a ≢ b)) (sym goes.along.1) way.2),
+      λ list root shown ascend at_root. along-by {X = Unit {0}} (Err c.in-Err.fault) goes.pages way.0 _ goes.along (way.3 list root shown ascend at_root),
+    )

@@ -1,8 +1,8 @@
-use Rattle.std.proofs.Common.{◌≡◌, ◌≢◌, ℕ, ◌+◌, ◌-◌, ◌<◌, ◌≤◌, ◌++◌, suc, [], ◌∷◌, Some, None, List, map, length, All, arith, refl, sym, ◌∙◌, ap, subst, append_assoc}
+use Rattle.std.proofs.Common.{◌≡◌, ℕ, ◌+◌, ◌-◌, ◌<◌, ◌≤◌, ◌++◌, suc, [], ◌∷◌, Some, None, map, length, All, arith, sym, ◌∙◌, ap, subst, append_assoc}
 use Rattle.std.proofs.lemmas.List.{append-nil}
 use Rattle.std.proofs.lemmas.Bool.{eqb-true, eqb-false}
 use Rattle.btree_image.specs.declared.runs.Run.{Run}
-use Rattle.btree_image.specs.Shape.{level_size, level_start, IsRoot}
+use Rattle.btree_image.specs.Shape.{level_size, level_start}
 use Rattle.btree_image.specs.Image.{shape_of, page_number, IsShown}
 use Rattle.btree_image.specs.Visited.{met_below, visited_pages}
 use Rattle.btree_image.specs.Walks.{fault_of, walk, AllLead}
@@ -19,19 +19,25 @@ returns-then-is_empty-clause-way g c =
     let l = g.T.TreeRow.layout in
     let k = g.met.T.TreeRow.kinds in
     let number = page_number l c.args.tree.first c.args.tree.rows c.root_level-level.result in
-    let empty : length c.args.ranges.now ≡ 0 = eqb-true (length c.args.ranges.now) 0 (sym c.if-is_empty.ensures) in
-    (number 0 ∷ [], goes-same (sym (place-one number 0 0 (omega arith))) c.reach.ensures.goes, (λ i j d lt k. absurd (omega arith)),
-    λ list root shown ascend at_root. along-whole (fault_of c.reach.result) _ _
-    (ap (λ n. page_number l c.args.tree.first c.args.tree.rows n 0 ∷ []) (root_unique (shape_of l c.args.tree.rows) c.root_level-level.result root c.root_level-level.ensures.root at_root)
-    ∙ visits-none l k.key_order (leaf_room l _ _ _ k) (inner_room l _ _ _ k) c.args.tree.rows list shown.is c.args.tree.first c.args.ranges.now empty root))
+    let empty : length c.args.ranges.now ≡ 0 = eqb-true (length c.args.ranges.now) 0 (sym c.if-is_empty.ensures) in (
+      number 0 ∷ [],
+      goes-same (sym (place-one number 0 0 (omega arith))) c.reach.ensures.goes,
+      (λ i j d lt k. absurd (omega arith)),
+      λ list root shown ascend at_root. along-whole (fault_of c.reach.result) _ _
+          (ap (λ n. page_number l c.args.tree.first c.args.tree.rows n 0 ∷ []) (root_unique (shape_of l c.args.tree.rows) c.root_level-level.result root c.root_level-level.ensures.root at_root)
+          ∙ visits-none l k.key_order (leaf_room l _ _ _ k) (inner_room l _ _ _ k) c.args.tree.rows list shown.is c.args.tree.first c.args.ranges.now empty root),
+    )
 
 pub returns-then-is_empty-clause-adds : goal.returns-then-is_empty-clause-adds
 returns-then-is_empty-clause-adds g c =
     let l = g.T.TreeRow.layout in
     let k = g.met.T.TreeRow.kinds in
-    let empty : length c.args.ranges.now ≡ 0 = eqb-true (length c.args.ranges.now) 0 (sym c.if-is_empty.ensures) in
-    ([], sym (append-nil c.args.out.now.items), λ list shown ascend. ok_always c.reach.result _
-    (rows-none l k.key_order (leaf_room l _ _ _ k) (inner_room l _ _ _ k) c.args.tree.rows list shown.is c.args.tree.first c.args.ranges.now empty))
+    let empty : length c.args.ranges.now ≡ 0 = eqb-true (length c.args.ranges.now) 0 (sym c.if-is_empty.ensures) in (
+      [],
+      sym (append-nil c.args.out.now.items),
+      λ list shown ascend. ok_always c.reach.result _
+          (rows-none l k.key_order (leaf_room l _ _ _ k) (inner_room l _ _ _ k) c.args.tree.rows list shown.is c.args.tree.first c.args.ranges.now empty),
+    )
 
 pub loop-level-init : goal.loop-level-init
 loop-level-init g c =
@@ -103,13 +109,15 @@ returns-in-Err-clause-way g c =
     let e = above_next c.loop-level.level c.loop-level-test.true in
     let ends = subst (λ n. All (λ (run : Run). run.end ≤ level_size s n) c.loop-level.runs) e inv.inside in
     let above = subst (λ n. All (λ page. c.args.tree.first + level_start s (suc n) ≤ page) inv.seen) e inv.above in
-    let now = map (page_number l c.args.tree.first c.args.tree.rows (suc below)) (walk 0 c.loop-level.runs) in
-    (inv.seen ++ now, goes-on g.met.P.Pages.asked_then (Some c.in-Err.fault) _ _ inv.goes c.in-Err.ensures.goes,
-    still-once l c.args.tree.first c.args.tree.rows (suc below) c.loop-level.runs ends inv.seen inv.once above,
-    λ list root shown ascend at_root.
-        let so_far = subst (λ n. inv.seen ++ (map (page_number l c.args.tree.first c.args.tree.rows n) (walk 0 c.loop-level.runs) ++ met_below l list c.args.ranges.now c.args.tree.first n)
-        ≡ visited_pages l list c.args.ranges.now c.args.tree.first root) e (inv.left list root shown ascend at_root) in
-        (met_below l list c.args.ranges.now c.args.tree.first (suc below), append_assoc inv.seen now _ ∙ so_far))
+    let now = map (page_number l c.args.tree.first c.args.tree.rows (suc below)) (walk 0 c.loop-level.runs) in (
+      inv.seen ++ now,
+      goes-on g.met.P.Pages.asked_then (Some c.in-Err.fault) _ _ inv.goes c.in-Err.ensures.goes,
+      still-once l c.args.tree.first c.args.tree.rows (suc below) c.loop-level.runs ends inv.seen inv.once above,
+      λ list root shown ascend at_root.
+          let so_far = subst (λ n. inv.seen ++ (map (page_number l c.args.tree.first c.args.tree.rows n) (walk 0 c.loop-level.runs) ++ met_below l list c.args.ranges.now c.args.tree.first n)
+          ≡ visited_pages l list c.args.ranges.now c.args.tree.first root) e (inv.left list root shown ascend at_root) in
+          (met_below l list c.args.ranges.now c.args.tree.first (suc below), append_assoc inv.seen now _ ∙ so_far),
+    )
 
 pub returns-in-Err-clause-adds : goal.returns-in-Err-clause-adds
 returns-in-Err-clause-adds g c = ([], sym (append-nil c.args.out.now.items), λ list shown ascend. tt)
@@ -123,21 +131,26 @@ returns-clause-way g c =
     let e : c.loop-level.level ≡ 0 = omega arith in
     let ends = subst (λ n. All (λ (run : Run). run.end ≤ level_size s n) c.loop-level.runs) e inv.inside in
     let above = subst (λ n. All (λ page. c.args.tree.first + level_start s (suc n) ≤ page) inv.seen) e inv.above in
-    let now = map (page_number l c.args.tree.first c.args.tree.rows 0) (walk 0 c.loop-level.runs) in
-    (inv.seen ++ now, goes-on g.met.P.Pages.asked_then (fault_of c.gather.result) _ _ inv.goes c.gather.ensures.goes,
-    still-once l c.args.tree.first c.args.tree.rows 0 c.loop-level.runs ends inv.seen inv.once above,
-    λ list root shown ascend at_root.
-        let so_far = subst (λ n. inv.seen ++ (map (page_number l c.args.tree.first c.args.tree.rows n) (walk 0 c.loop-level.runs) ++ met_below l list c.args.ranges.now c.args.tree.first n)
-        ≡ visited_pages l list c.args.ranges.now c.args.tree.first root) e (inv.left list root shown ascend at_root) in
-        along-whole (fault_of c.gather.result) _ _
-        (visits-last l k.key_order (leaf_room l _ _ _ k) (inner_room l _ _ _ k) c.args.tree.rows list shown.is c.args.tree.first c.args.ranges.now inv.seen now _ so_far))
+    let now = map (page_number l c.args.tree.first c.args.tree.rows 0) (walk 0 c.loop-level.runs) in (
+      inv.seen ++ now,
+      goes-on g.met.P.Pages.asked_then (fault_of c.gather.result) _ _ inv.goes c.gather.ensures.goes,
+      still-once l c.args.tree.first c.args.tree.rows 0 c.loop-level.runs ends inv.seen inv.once above,
+      λ list root shown ascend at_root.
+          let so_far = subst (λ n. inv.seen ++ (map (page_number l c.args.tree.first c.args.tree.rows n) (walk 0 c.loop-level.runs) ++ met_below l list c.args.ranges.now c.args.tree.first n)
+          ≡ visited_pages l list c.args.ranges.now c.args.tree.first root) e (inv.left list root shown ascend at_root) in
+          along-whole (fault_of c.gather.result) _ _
+          (visits-last l k.key_order (leaf_room l _ _ _ k) (inner_room l _ _ _ k) c.args.tree.rows list shown.is c.args.tree.first c.args.ranges.now inv.seen now _ so_far),
+    )
 
 pub returns-clause-adds : goal.returns-clause-adds
 returns-clause-adds g c =
     let l = g.T.TreeRow.layout in
     let inv = c.loop-level.invariant in
     let e : c.loop-level.level ≡ 0 = omega arith in
-    let adds = c.gather.ensures.adds in
-    (adds.0, adds.1, λ list shown ascend.
-        adds.2 list (subst (λ contents. IsShown l contents c.args.tree.first c.args.tree.rows list) (sym inv.goes.same_contents) shown) ascend
-        (subst (λ n. AllLead l list n c.args.ranges.now c.loop-level.runs) e (inv.lead list shown ascend)))
+    let adds = c.gather.ensures.adds in (
+      adds.0,
+      adds.1,
+      λ list shown ascend.
+          adds.2 list (subst (λ contents. IsShown l contents c.args.tree.first c.args.tree.rows list) (sym inv.goes.same_contents) shown) ascend
+          (subst (λ n. AllLead l list n c.args.ranges.now c.loop-level.runs) e (inv.lead list shown ascend)),
+    )
