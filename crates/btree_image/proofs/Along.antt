@@ -11,9 +11,9 @@ use Rattle.page_codec.specs.declared.faults.PageFault.TheVariants.{Failed, Damag
 use Rattle.btree_image.specs.Rows.{Layout}
 use Rattle.btree_image.specs.Image.{IsShown}
 use Rattle.btree_image.specs.Damage.{IsDamaged}
-use Rattle.btree_image.specs.Asked.{given, given_but_last, EndsWith, GoesBy, Went}
+use Rattle.tree_shape.specs.Asked.{given, given_but_last, EndsWith, GoesBy, Went}
 use Rattle.btree_image.specs.Walks.{reads_by, StopsOn, GoesAlong, OnDamaged, OnFailed, GoesOn, fault_of}
-use Rattle.btree_image.proofs.Trail.{given-append}
+use Rattle.tree_shape.specs.Laws.Trail.{given-append}
 
 -- a count that rose later rose
 next-below : (a b most : ℕ) → a ≤ b → (if nat_lt a most then a + 1 else a) ≤ (if nat_lt b most then b + 1 else b)

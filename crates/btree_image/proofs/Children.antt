@@ -1,48 +1,24 @@
 -- The rows of a page above the leaves, and the child through which a descent goes.
-use Rattle.std.proofs.Common.{◌≡◌, ℕ, zero, suc, ◌+◌, ◌-◌, ◌*◌, ◌/◌, ◌^◌, ◌<◌, ◌≤◌, min, true, false, not, List, [], ◌∷◌, ◌++◌, take, drop, map, length, get_or, slice_get, Some, All, arith, refl, ◌∙◌, ap, subst, sym}
-use Rattle.std.proofs.Math.Nat.{mul-le-mul_left, div-mul-le_self, lt-div-mul-add}
-use Rattle.std.proofs.lemmas.Grind.{div_ceil_times}
+use Rattle.std.proofs.Common.{◌≡◌, ℕ, suc, ◌+◌, ◌-◌, ◌*◌, ◌/◌, ◌^◌, ◌<◌, ◌≤◌, min, true, false, not, List, [], ◌++◌, take, drop, map, length, get_or, All, arith, refl, ◌∙◌, ap, subst, sym}
+use Rattle.std.proofs.Math.Nat.{div-mul-le_self, lt-div-mul-add}
 use Rattle.std.proofs.lemmas.List.{drop_at, take_at, get_or-map, length-map}
 use Rattle.std.proofs.lemmas.Nat.{from_be_bytes-to_be_bytes_4}
-use Rattle.std.specs.Int.{div_ceil, to_be_bytes, from_be_bytes, w32}
+use Rattle.std.specs.Int.{to_be_bytes, from_be_bytes, w32}
 use Rattle.std.specs.Ordering.{is_gt}
 use Rattle.std.specs.declared.cmp.Ordering.TheVariants.{Greater}
 use Rattle.page_codec.specs.Page.{most_rows}
-use Rattle.btree_image.specs.Shape.{Shape, level_size, level_start, span}
+use Rattle.tree_shape.specs.Laws.Writing.{stands, Stands}
+use Rattle.tree_shape.specs.Laws.Places.{child_has_row}
+use Rattle.tree_shape.specs.declared.levels.Shape.{Shape}
+use Rattle.tree_shape.specs.Shape.{level_size, level_start, span}
 use Rattle.btree_image.specs.Rows.{Layout, IsStored, IsKeyOrder, Ascends}
-use Rattle.btree_image.specs.Image.{numbers, shape_of, child_row, level_rows}
+use Rattle.tree_shape.specs.Shape.{numbers}
+use Rattle.btree_image.specs.Image.{shape_of, child_row, level_rows}
 use Rattle.btree_image.specs.Descent.{rank, place_of_key}
 use Rattle.btree_image.specs.Steps.{reaches, IsLastUpTo}
-use Rattle.btree_image.proofs.Covers.{span-next, span-zero, span-pos, level_size-suc, level_size-zero, child_reached, child_passed, place_inside}
-use Rattle.btree_image.proofs.Numbers.{children_at-numbers, get_or-numbers, length-numbers}
+use Rattle.tree_shape.specs.Laws.Covers.{span-pos, child_reached, child_passed, place_inside}
+use Rattle.tree_shape.specs.Laws.Numbers.{children_at-numbers, get_or-numbers, length-numbers}
 use Rattle.btree_image.proofs.Rank.{rank-le, at_most-below, greater-from}
-
--- each child but the first of a level has a row
-pub child_has_row : (s : Shape) → 1 ≤ s.per_leaf → 2 ≤ s.per_inner → (level c : ℕ) → 1 ≤ c → c < level_size s level → c * span s level < s.rows
-child_has_row s a b zero c some h =
-    let times = (div_ceil_times s.rows s.per_leaf a).1 in
-    let size = level_size-zero s in
-    let c_below : suc c ≤ div_ceil s.rows s.per_leaf = omega (arith, size, h) in
-    let more : s.per_leaf * suc c ≤ s.per_leaf * div_ceil s.rows s.per_leaf = mul-le-mul_left s.per_leaf c_below in
-    rw (span-zero s) (omega (arith, times, more))
-child_has_row s a b (suc level) c some h =
-    let times = (div_ceil_times (level_size s level) s.per_inner (omega arith)).1 in
-    let c_below : suc c ≤ div_ceil (level_size s level) s.per_inner = subst (λ n. c < n) (level_size-suc s level) h in
-    let more : s.per_inner * suc c ≤ s.per_inner * div_ceil (level_size s level) s.per_inner = mul-le-mul_left s.per_inner c_below in
-    let one : c * 1 ≤ c * s.per_inner = mul-le-mul_left c (omega arith) in
-    let below = child_has_row s a b level (c * s.per_inner) (omega arith) (omega (arith, times, more)) in
-    rw (span-next s level) (let e : c * (span s level * s.per_inner) ≡ c * s.per_inner * span s level = omega arith in rw e below)
-
--- what stands at a place within a list
-pub record Stands {T : Type 0} (rows : List T) (i : ℕ) : Type 0 where
-  pub row : T
-  pub got : slice_get rows i ≡ Some row
-  pub read : get_or rows i row ≡ row
-
-pub stands : {T : Type 0} (rows : List T) (i : ℕ) → i < length rows → Stands rows i
-stands [] i h = absurd (omega arith)
-stands (x ∷ xs) zero h = record { row = x; got = refl; read = refl }
-stands (x ∷ xs) (suc i) h = let s = stands xs i (omega arith) in record { row = s.row; got = s.got; read = s.read }
 
 pub stored_at : {T K : Type 0} (l : Layout T K) (rows : List T) → All (IsStored l) rows → (i : ℕ) (s : Stands rows i) → i < length rows → IsStored l s.row
 stored_at l rows stored i s h = subst (IsStored l) s.read (stored i s.row h)

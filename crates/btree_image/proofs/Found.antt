@@ -4,7 +4,7 @@ use Rattle.std.specs.Prelude.{slice_index_or, IfSome, IfNone}
 use Rattle.std.specs.Ordering.{eq_by_cmp}
 use Rattle.std.specs.Int.{from_be_bytes, w32}
 use Rattle.page_codec.specs.Page.{row_count, rows_on}
-use Rattle.btree_image.specs.Shape.{level_size, level_start}
+use Rattle.tree_shape.specs.Shape.{level_size, level_start}
 use Rattle.btree_image.specs.Rows.{Layout}
 use Rattle.btree_image.specs.Image.{shape_of}
 use Rattle.btree_image.specs.Damage.{IsInnerPage}

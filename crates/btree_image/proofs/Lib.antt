@@ -1,17 +1,11 @@
 pub mod Widths
-pub mod Sizes
-pub mod OnPage
-pub mod Numbers
 pub mod Rank
-pub mod Covers
 pub mod Halving
 pub mod Children
 pub mod Leaf
 pub mod Found
 pub mod Told
 pub mod Trail
-pub mod Loading
-pub mod Lent
 pub mod Along
 pub mod Places
 pub mod Shown

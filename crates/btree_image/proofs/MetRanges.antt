@@ -9,17 +9,18 @@ use Rattle.std.specs.Ordering.{is_gt, is_lt, ordering_reverse}
 use Rattle.std.specs.declared.cmp.Ordering.{Ordering}
 use Rattle.std.specs.declared.cmp.Ordering.TheVariants.{Less, Equal, Greater}
 use Rattle.page_codec.specs.Page.{most_rows}
-use Rattle.btree_image.specs.Shape.{level_size, span}
+use Rattle.tree_shape.specs.Shape.{level_size, span}
 use Rattle.btree_image.specs.Rows.{Layout, IsKeyOrder}
-use Rattle.btree_image.specs.Image.{shape_of, numbers, IsList}
+use Rattle.btree_image.specs.Image.{shape_of, IsList}
+use Rattle.tree_shape.specs.Shape.{numbers}
 use Rattle.btree_image.specs.Descent.{rank, place_of_key}
 use Rattle.btree_image.specs.Visited.{AreRanges, begins_before, reaches_row, is_inside, rows_met, is_met}
 use Rattle.btree_image.specs.Walks.{rank_below, end_of_key, run_of, part, rows_of, next_behind, walk}
-use Rattle.btree_image.proofs.Covers.{past_quotient, child_reached}
+use Rattle.tree_shape.specs.Laws.Covers.{past_quotient, child_reached}
 use Rattle.btree_image.proofs.Rank.{rank-le, at_most-below, greater-from}
 use Rattle.btree_image.proofs.Ranks.{isnt_greater, rank-mono, rank-before, below-rank, below-passes, below-stops}
 use Rattle.btree_image.proofs.Narrowed.{end-some, end-none, end-inside, span-some, run-follows, leads-own}
-use Rattle.btree_image.proofs.Children.{stands}
+use Rattle.tree_shape.specs.Laws.Writing.{stands}
 use Rattle.btree_image.proofs.Places.{numbers-then, behind-some, places-none, unmoved}
 
 pub filter-none : {X : Type 0} (p : X → Bool) (xs : List X) → All (λ x. p x ≡ false) xs → filter p xs ≡ []

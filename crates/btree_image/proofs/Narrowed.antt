@@ -9,17 +9,19 @@ use Rattle.std.specs.declared.cmp.Ordering.TheVariants.{Less, Greater}
 use Rattle.page_codec.specs.Page.{most_rows, rows_on, ShowsRows}
 use Rattle.btree_image.specs.declared.hand.InHand.{InHand}
 use Rattle.btree_image.specs.declared.runs.Run.{Run}
-use Rattle.btree_image.specs.Shape.{level_size, span, IsPlace}
+use Rattle.tree_shape.specs.Shape.{level_size, span, IsPlace}
 use Rattle.btree_image.specs.Rows.{Layout, IsKeyOrder}
-use Rattle.btree_image.specs.Image.{shape_of, level_rows, IsList, IsShown, numbers, child_row}
+use Rattle.btree_image.specs.Image.{shape_of, level_rows, IsList, IsShown, child_row}
+use Rattle.tree_shape.specs.Shape.{numbers}
 use Rattle.btree_image.specs.Descent.{rank, place_of_key}
 use Rattle.btree_image.specs.Steps.{reaches, IsLastUpTo}
 use Rattle.btree_image.specs.Walks.{end_of_key, run_of, Leads, IsInHand}
-use Rattle.btree_image.proofs.Numbers.{length-numbers}
-use Rattle.btree_image.proofs.Covers.{span-pos, up_to_quotient}
+use Rattle.tree_shape.specs.Laws.Numbers.{length-numbers}
+use Rattle.tree_shape.specs.Laws.Covers.{span-pos, up_to_quotient}
 use Rattle.btree_image.proofs.Ranks.{rank-mono, isnt_greater, ceil-some, ceil-none}
 use Rattle.btree_image.proofs.Children.{child_at, level_rows-children, row_at_place, reaches-up_to, reaches-none}
-use Rattle.btree_image.proofs.Told.{place-above, place-inside, in_page, shown_read, rows_above}
+use Rattle.btree_image.proofs.Told.{place-above, place-inside, in_page, shown_read}
+use Rattle.tree_shape.specs.Laws.Places.{rows_above}
 
 zero_less_one : (m : ℕ) → (0 - 1) / m ≡ 0
 zero_less_one m = let e : 0 - 1 ≡ 0 = omega arith in ap (λ n. n / m) e ∙ zero-div m
@@ -165,7 +167,7 @@ module _ {T K : Type 0} (l : Layout T K) (o : IsKeyOrder l.order) (a : 1 ≤ mos
       let shows_last = shown_read l list start rows contents shown right.buf (suc level) last place_last in_right.told in
       let e = at_is ∙ leads.first_is in
       let f = last_is ∙ last_place (suc level) range run leads some in
-      let filled = rows_above l rows level at a place in
+      let filled = rows_above (shape_of l rows) level at a place in
       same_run first _ end _
       (firsts _ (in_page l o a b rows list is range.0 level at e left.buf shows) ∙ first-told range.0 level at e left.buf shows)
       (ends _ (in_page l o a b rows list is range.1 level last f right.buf shows_last)

@@ -3,9 +3,10 @@ use Rattle.std.proofs.Common.{◌≡◌, ℕ, zero, suc, ◌+◌, ◌-◌, ◌<�
 use Rattle.std.proofs.lemmas.Bool.{cases_lt, cases_eq, lt-ltb, le-ltb}
 use Rattle.std.proofs.lemmas.List.{drop_more, drop_all, append-nil, map-append, get_or-set_same, get_or-set_other}
 use Rattle.btree_image.specs.declared.runs.Run.{Run}
-use Rattle.btree_image.specs.Asked.{EndsWith}
+use Rattle.tree_shape.specs.Asked.{EndsWith}
 use Rattle.btree_image.specs.Rows.{Layout}
-use Rattle.btree_image.specs.Image.{numbers, page_number}
+use Rattle.tree_shape.specs.Shape.{numbers}
+use Rattle.btree_image.specs.Image.{page_number}
 use Rattle.btree_image.specs.Walks.{places_in, next_behind, walk, in_hand}
 
 pub numbers-none : (from n : ℕ) → n ≡ 0 → numbers from n ≡ []

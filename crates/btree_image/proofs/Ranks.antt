@@ -11,7 +11,7 @@ use Rattle.std.specs.declared.cmp.Ordering.TheVariants.{Less, Equal, Greater}
 use Rattle.btree_image.specs.Rows.{Layout, IsKeyOrder, Ascends}
 use Rattle.btree_image.specs.Descent.{rank}
 use Rattle.btree_image.specs.Walks.{rank_below}
-use Rattle.btree_image.proofs.Covers.{below_quotient, up_to_quotient}
+use Rattle.tree_shape.specs.Laws.Covers.{below_quotient, up_to_quotient}
 use Rattle.btree_image.proofs.Rank.{rank-le, at_most-below}
 
 pub prefix-mono : {X : Type 0} (p q : X → Bool) (xs : List X) → ((x : X) → p x ≡ true → q x ≡ true) → prefix_len p xs ≤ prefix_len q xs

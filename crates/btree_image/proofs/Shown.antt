@@ -5,13 +5,14 @@ use Rattle.std.proofs.lemmas.Grind.{div_ceil_times}
 use Rattle.std.proofs.lemmas.List.{length-map}
 use Rattle.std.specs.Int.{div_ceil}
 use Rattle.page_codec.specs.Page.{most_rows, row_count, IsPage, ShowsRows}
-use Rattle.btree_image.specs.Shape.{level_size, IsPlace}
+use Rattle.tree_shape.specs.Shape.{level_size, IsPlace}
 use Rattle.btree_image.specs.Rows.{Layout}
-use Rattle.btree_image.specs.Image.{shape_of, level_rows, level_kind, IsList, numbers, child_row}
+use Rattle.btree_image.specs.Image.{shape_of, level_rows, level_kind, IsList, child_row}
+use Rattle.tree_shape.specs.Shape.{numbers}
 use Rattle.btree_image.specs.Damage.{IsTreePage}
-use Rattle.btree_image.proofs.OnPage.{length-rows_on}
-use Rattle.btree_image.proofs.Numbers.{length-numbers}
-use Rattle.btree_image.proofs.Covers.{level_size-suc}
+use Rattle.tree_shape.specs.Laws.Writing.{length-rows_on}
+use Rattle.tree_shape.specs.Laws.Numbers.{length-numbers}
+use Rattle.tree_shape.specs.Laws.Covers.{level_size-suc}
 use Rattle.btree_image.proofs.Children.{level_rows-children}
 
 -- each page of a level has a first child

@@ -3,26 +3,27 @@ use Rattle.std.proofs.Common.{◌≡◌, ℕ, suc, ◌+◌, ◌-◌, ◌*◌, �
 use Rattle.std.specs.Prelude.{slice_index_or, not}
 use Rattle.std.specs.Ordering.{is_gt, eq_by_cmp}
 use Rattle.std.specs.declared.cmp.Ordering.TheVariants.{Greater}
-use Rattle.std.specs.Int.{div_ceil, from_be_bytes, w32}
+use Rattle.std.specs.Int.{from_be_bytes, w32}
 use Rattle.std.proofs.lemmas.List.{length-map, get_or-map}
 use Rattle.std.proofs.lemmas.List.Elements.{All-take, All-drop}
-use Rattle.std.proofs.lemmas.Grind.{div_ceil_times}
-use Rattle.std.proofs.lemmas.Bool.{cases_lt, cases_Bool}
+use Rattle.std.proofs.lemmas.Bool.{cases_Bool}
 use Rattle.std.proofs.Math.Nat.{div-mul-le_self}
 use Rattle.dev_model.specs.Story.{WhereTold}
 use Rattle.page_codec.specs.Page.{most_rows, rows_on, row_count, ShowsRows}
-use Rattle.btree_image.specs.Shape.{level_size, level_start, IsPlace}
+use Rattle.tree_shape.specs.Shape.{level_size, level_start, IsPlace}
 use Rattle.btree_image.specs.Rows.{Layout, IsStored, IsKeyOrder, row_with_key}
-use Rattle.btree_image.specs.Image.{shape_of, level_rows, level_kind, IsList, ShowsTree, IsShown, page_number, numbers, child_row}
+use Rattle.tree_shape.specs.Shape.{numbers}
+use Rattle.btree_image.specs.Image.{shape_of, level_rows, level_kind, IsList, ShowsTree, IsShown, page_number, child_row}
 use Rattle.btree_image.specs.Descent.{rank, place_of_key}
 use Rattle.btree_image.specs.Damage.{AllReadable, IsTreePage, IsDamaged}
 use Rattle.page_codec.specs.declared.faults.PageFault.TheVariants.{Damaged}
 use Rattle.btree_image.specs.Steps.{IsLastUpTo, row_at}
-use Rattle.btree_image.proofs.OnPage.{length-rows_on}
-use Rattle.btree_image.proofs.Numbers.{length-numbers}
+use Rattle.tree_shape.specs.Laws.Writing.{length-rows_on}
+use Rattle.tree_shape.specs.Laws.Numbers.{length-numbers}
 use Rattle.btree_image.proofs.Rank.{rank-le, at_most-below, greater-from}
-use Rattle.btree_image.proofs.Covers.{place_inside, place_above, level_size-zero}
-use Rattle.btree_image.proofs.Children.{stands, Stands, stored_at, not_greater, place_in_page, child_number-is, child_at, level_rows-children, row_at_place}
+use Rattle.tree_shape.specs.Laws.Covers.{place_inside, place_above}
+use Rattle.tree_shape.specs.Laws.Writing.{stands, Stands}
+use Rattle.btree_image.proofs.Children.{stored_at, not_greater, place_in_page, child_number-is, child_at, level_rows-children, row_at_place}
 use Rattle.btree_image.proofs.Leaf.{found-last, found-none, row_with_key-none, leaf-low, leaf-high, part-length}
 use Rattle.btree_image.proofs.Found.{row_at-other, row_at-same}
 
@@ -165,28 +166,6 @@ pub shown_read : {T K : Type 0} (l : Layout T K) (list : List T) (first rows : �
 shown_read l list first rows contents shown buf level at place read =
     subst (λ x. ShowsRows (level_kind l level) level (level_rows l list level at) x) (sym (read shown.bytes shown.told))
     (shown_at l list first rows shown.bytes shown.shows shown.is.count level at place)
-
--- the page below on the way of a descent
-pub place_next : {T K : Type 0} (l : Layout T K) (rows level at below_at : ℕ) → IsPlace (shape_of l rows) (suc level) at
-    → below_at < level_size (shape_of l rows) level → IsPlace (shape_of l rows) level below_at
-place_next l rows level at below_at place inside = record { inside = inside; up_to_root = λ j h. place.up_to_root j (omega arith) }
-
--- a tree with a level above its leaves has rows
-pub rows_above : {T K : Type 0} (l : Layout T K) (rows level at : ℕ) → 1 ≤ most_rows l.leaf → IsPlace (shape_of l rows) (suc level) at → 0 < rows
-rows_above l rows level at a place =
-    elim (cases_lt 0 rows) [
-      | inl some ↦ some
-      | inr none ↦ absurd (
-          let more : 1 < level_size (shape_of l rows) 0 = place.up_to_root 0 (omega arith) in
-          let size = level_size-zero (shape_of l rows) in
-          let times = (div_ceil_times rows (most_rows l.leaf) a).1 in
-          let zero_rows : rows ≡ 0 = omega arith in
-          let none_needed : div_ceil rows (most_rows l.leaf) ≡ 0 = rw zero_rows (div_ceil-zero (most_rows l.leaf) a) in
-          omega arith)
-    ]
-  where
-    div_ceil-zero : (m : ℕ) → 1 ≤ m → div_ceil 0 m ≡ 0
-    div_ceil-zero m a = omega arith
 
 -- the rows of a leaf can be read
 pub readable : {T K : Type 0} (l : Layout T K) (list : List T) → All (IsStored l) list → (at : ℕ) (rows : List (List ℕ)) → rows ≡ level_rows l list 0 at → AllReadable l rows

@@ -2,7 +2,7 @@
 use Rattle.std.proofs.Common.{ℕ, zero, suc, ◌/◌, ◌<◌, ◌≤◌, arith, lit≤}
 use Rattle.page_codec.specs.Page.{row_width, most_rows, IsKind}
 use Rattle.btree_image.specs.Rows.{Layout, AreKinds}
-use Rattle.btree_image.proofs.Covers.{up_to_quotient}
+use Rattle.tree_shape.specs.Laws.Covers.{up_to_quotient}
 
 pub row_width-most : (kind : ℕ) → row_width kind ≤ 78
 row_width-most zero = lit≤ tt

@@ -2,7 +2,7 @@
 use Rattle.std.specs.Prelude.{◌≡◌, ℕ, zero, suc, ◌+◌, ◌<◌, [], drop, List, length, slice_index_or, None}
 use Rattle.std.specs.Int.{from_be_bytes, w32}
 use Rattle.page_codec.specs.Page.{IsPage, row_count, rows_on}
-use Rattle.btree_image.specs.Shape.{level_size, level_start, IsPlace}
+use Rattle.tree_shape.specs.Shape.{level_size, level_start, IsPlace}
 use Rattle.btree_image.specs.Rows.{Layout}
 use Rattle.btree_image.specs.Image.{shape_of, page_number}
 

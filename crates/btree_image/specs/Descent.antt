@@ -3,7 +3,7 @@
 use Rattle.std.specs.Prelude.{ℕ, zero, suc, ◌-◌, ◌/◌, not, List, [], ◌∷◌, length}
 use Rattle.std.specs.List.{prefix_len}
 use Rattle.std.specs.Ordering.{is_gt}
-use Rattle.btree_image.specs.Shape.{span}
+use Rattle.tree_shape.specs.Shape.{span}
 use Rattle.btree_image.specs.Rows.{Layout}
 use Rattle.btree_image.specs.Image.{shape_of, page_number}
 

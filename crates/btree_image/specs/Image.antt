@@ -1,19 +1,11 @@
 -- The image of a list of rows: its tree, as rows on pages.
-use Rattle.std.specs.Prelude.{◌≡◌, ℕ, zero, suc, ◌+◌, ◌*◌, List, [], ◌∷◌, ◌++◌, length, take, drop, map, slice_get, All, Bool, IsTrue, Option, Some}
+use Rattle.std.specs.Prelude.{◌≡◌, ℕ, zero, suc, ◌+◌, ◌*◌, List, [], ◌++◌, length, take, drop, map, slice_get, All, Bool, IsTrue, Option, Some}
 use Rattle.std.specs.Int.{to_be_bytes, w32}
 use Rattle.std.specs.Option.{option_map_or}
 use Rattle.page_codec.specs.Page.{page_of, most_rows, ShowsRows}
-use Rattle.btree_image.specs.Shape.{Shape, level_size, level_start, span, IsPlace}
+use Rattle.tree_shape.specs.declared.levels.Shape.{Shape}
+use Rattle.tree_shape.specs.Shape.{level_size, level_start, span, IsPlace, children_at}
 use Rattle.btree_image.specs.Rows.{Layout, IsStored, Ascends}
-
--- the numbers from one on
-unfoldable pub numbers : (from count : ℕ) → List ℕ
-numbers from zero = []
-numbers from (suc n) = from ∷ numbers (suc from) n
-
--- the places of the children of a page, in a level of that size
-abbrev pub children_at : (size many at : ℕ) → List ℕ
-children_at size many at = take many (drop (at * many) (numbers 0 size))
 
 module _ {T K : Type 0} (l : Layout T K) where
   -- a tree of that many rows

@@ -1,9 +1,7 @@
-pub mod Shape
 pub mod Rows
 pub mod Image
 pub mod Descent
 pub mod Damage
-pub mod Asked
 pub mod Steps
 pub mod TestRows
 pub mod Visited

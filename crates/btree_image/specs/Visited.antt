@@ -4,9 +4,10 @@ use Rattle.std.specs.List.{list_any}
 use Rattle.std.specs.Ordering.{is_gt, is_lt}
 use Rattle.std.specs.declared.cmp.Ordering.{Ordering}
 use Rattle.std.specs.declared.cmp.Ordering.TheVariants.{Less, Greater}
-use Rattle.btree_image.specs.Shape.{span, level_size}
+use Rattle.tree_shape.specs.Shape.{span, level_size}
 use Rattle.btree_image.specs.Rows.{Layout}
-use Rattle.btree_image.specs.Image.{shape_of, page_number, numbers}
+use Rattle.btree_image.specs.Image.{shape_of, page_number}
+use Rattle.tree_shape.specs.Shape.{numbers}
 
 -- closed ranges, each behind the one before it
 pub record AreRanges {K : Type 0} (order : K → K → Ordering) (ranges : List (K × K)) : Type 0 where

@@ -10,12 +10,13 @@ use Rattle.page_codec.specs.declared.faults.PageFault.{PageFault}
 use Rattle.page_codec.specs.declared.faults.PageFault.TheVariants.{Failed, Damaged, OutOfMemory}
 use Rattle.btree_image.specs.declared.hand.InHand.{InHand}
 use Rattle.btree_image.specs.declared.runs.Run.{Run}
-use Rattle.btree_image.specs.Shape.{span, level_size}
+use Rattle.tree_shape.specs.Shape.{span, level_size}
 use Rattle.btree_image.specs.Rows.{Layout}
-use Rattle.btree_image.specs.Image.{shape_of, page_number, numbers, level_kind, IsShown}
+use Rattle.btree_image.specs.Image.{shape_of, page_number, level_kind, IsShown}
+use Rattle.tree_shape.specs.Shape.{numbers}
 use Rattle.btree_image.specs.Descent.{rank, place_of_key}
 use Rattle.btree_image.specs.Damage.{IsDamaged}
-use Rattle.btree_image.specs.Asked.{given, given_but_last, EndsWith}
+use Rattle.tree_shape.specs.Asked.{given, given_but_last, EndsWith}
 
 -- the fault of an answer
 abbrev pub fault_of : {X : Type 0} → Result X PageFault → Option PageFault

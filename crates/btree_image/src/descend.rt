@@ -5,12 +5,12 @@ ghost use Rattle.dev_model.specs.Counts.{Rose, HasCause};
 ghost use Rattle.dev_model.specs.Story.{WhereTold};
 ghost use Rattle.page_codec.specs.Page.{ShowsRows};
 ghost use Rattle.page_codec.specs.declared.faults.PageFault.TheVariants.{Failed, Damaged, OutOfMemory};
-ghost use Rattle.btree_image.specs.Shape.{level_size, level_start, IsRoot, IsPlace};
+ghost use Rattle.tree_shape.specs.Shape.{level_size, level_start, IsRoot, IsPlace};
 ghost use Rattle.btree_image.specs.Rows.{row_with_key};
 ghost use Rattle.btree_image.specs.Image.{shape_of, level_rows, IsList, IsShown, page_number, AreLent};
 ghost use Rattle.btree_image.specs.Descent.{place_of_key, descent};
 ghost use Rattle.btree_image.specs.Damage.{IsInnerPage, IsDamaged};
-ghost use Rattle.btree_image.specs.Asked.{Went, GoesBy};
+ghost use Rattle.tree_shape.specs.Asked.{Went, GoesBy};
 
 use crate::TreeRow;
 use crate::in_page::{child_for, row_for};

@@ -3,7 +3,7 @@
 ghost use Rattle.std.specs.Prelude.{◌≡◌, ◌≢◌, ℕ, suc, zero, [], ◌++◌, ◌+◌, ◌-◌, ◌*◌, ◌<◌, ◌≤◌, min, max, List, length, map, take, drop, slice_index_or, Some, All, OnOk, IfErr, ◌⊎◌, if◌then◌else◌};
 ghost use Rattle.page_codec.specs.Page.{IsPage, row_count, rows_on, most_rows};
 ghost use Rattle.page_codec.specs.declared.faults.PageFault.TheVariants.{Damaged, OutOfMemory};
-ghost use Rattle.btree_image.specs.Shape.{level_size, IsPlace};
+ghost use Rattle.tree_shape.specs.Shape.{level_size, IsPlace};
 ghost use Rattle.btree_image.specs.Image.{shape_of, page_number, level_kind, AreLent, IsShown};
 ghost use Rattle.btree_image.specs.Descent.{rank};
 ghost use Rattle.btree_image.specs.Damage.{AllReadable};

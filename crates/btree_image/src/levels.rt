@@ -1,19 +1,13 @@
-//! The levels of a tree: how many pages each has, and where they stand.
+//! The levels of a tree for a kind of rows.
 
-ghost use Rattle.std.specs.Prelude.{◌≡◌, ℕ, ◌+◌, ◌-◌, ◌*◌, ◌^◌, ◌<◌, ◌≤◌, suc};
-ghost use Rattle.page_codec.specs.Page.{most_rows, IsKind};
-ghost use Rattle.btree_image.specs.Shape.{Shape, level_size, level_start, IsRoot, IsPlace};
+ghost use Rattle.std.specs.Prelude.{◌≡◌, ℕ, ◌+◌, ◌*◌, ◌^◌, ◌<◌, ◌≤◌};
+ghost use Rattle.page_codec.specs.Page.{most_rows};
+ghost use Rattle.tree_shape.specs.Shape.{level_size, level_start, IsRoot};
 ghost use Rattle.btree_image.specs.Image.{shape_of};
 
 use crate::TreeRow;
 use page_codec::rows_per_page;
-
-/// How many pages stand before a level, and how many it has.
-#[derive(Clone, Copy)]
-pub(crate) struct Level {
-    pub(crate) start: u64,
-    pub(crate) size: u64,
-}
+use tree_shape::{Level, Shape};
 
 pub(crate) fn per_leaf<T: TreeRow>() -> u64
     ensures rows { result ≡ most_rows T.layout.leaf }
@@ -31,13 +25,17 @@ pub(crate) fn per_inner<T: TreeRow>() -> u64
     u64::from(rows_per_page(T::INNER))
 }
 
-#[tactic(auto, unfolding(crate::specs::Shape::level_size))]
-fn leaves<T: TreeRow>(rows: u32) -> u64
-    ensures size { result ≡ level_size (shape_of T.layout rows) 0 }
-    ensures some { 1 ≤ result }
-    ensures below { result < 2 ^ 32 }
+// The shape of a tree of so many rows.
+pub(crate) fn shape<T: TreeRow>(rows: u32) -> Shape
+    ensures shape { result ≡ shape_of T.layout rows }
+    ensures per_leaf { 1 ≤ result.per_leaf }
+    ensures per_inner { 2 ≤ result.per_inner }
 {
-    u64::from(rows).div_ceil(per_leaf::<T>()).max(1)
+    Shape {
+        per_leaf: rows_per_page(T::LEAF),
+        per_inner: rows_per_page(T::INNER),
+        rows,
+    }
 }
 
 pub(crate) fn level_at<T: TreeRow>(rows: u32, level: u8) -> Level
@@ -47,30 +45,12 @@ pub(crate) fn level_at<T: TreeRow>(rows: u32, level: u8) -> Level
     ensures size_below { result.size < 2 ^ 32 }
     ensures start_below { result.start ≤ level * 2 ^ 32 }
 {
-    let many = per_inner::<T>();
-    let mut at = Level {
-        start: 0,
-        size: leaves::<T>(rows),
-    };
-    for _i in 0..level {
-        at = Level {
-            start: at.start + at.size,
-            size: at.size.div_ceil(many),
-        };
-    }
-    at
+    shape::<T>(rows).level_at(level)
 }
 
 pub(crate) fn root_level<T: TreeRow>(rows: u32) -> u8
     ensures root { IsRoot (shape_of T.layout rows) result }
     ensures low { result ≤ 33 }
 {
-    let many = per_inner::<T>();
-    let mut size = leaves::<T>(rows);
-    let mut level = 0;
-    while size > 1 {
-        size = size.div_ceil(many);
-        level += 1;
-    }
-    level
+    shape::<T>(rows).root_level()
 }

@@ -3,12 +3,13 @@
 ghost use Rattle.std.specs.Prelude.{◌≡◌, ℕ, suc, [], ◌∷◌, ◌+◌, ◌*◌, ◌^◌, ◌<◌, ◌≤◌, ◌++◌, List, length};
 ghost use Rattle.std.specs.Int.{to_be_bytes, w32};
 ghost use Rattle.page_codec.specs.Page.{ShowsRows, page_of, kind_of, row_count, row_width, most_rows, AllOfWidth};
-ghost use Rattle.btree_image.specs.Shape.{level_size, level_start, span, IsRoot, IsPlace};
+ghost use Rattle.tree_shape.specs.Shape.{level_size, level_start, span, IsRoot, IsPlace};
 ghost use Rattle.btree_image.specs.Image.{shape_of, level_rows, level_kind, level_page};
 
 use crate::TreeRow;
-use crate::levels::{level_at, per_inner, per_leaf, root_level};
+use crate::levels::{level_at, per_inner, per_leaf, shape};
 use page_codec::{PAGE_BYTES, new_page, put_row, width_of};
+use tree_shape::Spot;
 
 // The most bytes of a row of any kind.
 const MOST_WIDTH: usize = 78;
@@ -20,15 +21,7 @@ pub fn pages_for<T: TreeRow>(rows: u32) -> u32
     ensures last { (root : ℕ) → IsRoot (shape_of T.layout rows) root → result ≡ level_start (shape_of T.layout rows) root + 1 }
     ensures all { (level at : ℕ) → IsPlace (shape_of T.layout rows) level at → level_start (shape_of T.layout rows) level + at < result }
 {
-    let root = level_at::<T>(rows, root_level::<T>(rows));
-    (root.start + 1) as u32
-}
-
-// A page of an image: its level, and its place there.
-#[derive(Clone, Copy)]
-struct Spot {
-    level: u8,
-    at: u64,
+    shape::<T>(rows).pages() as u32
 }
 
 // The place of a page by its number in the image.
@@ -38,18 +31,7 @@ fn spot_of<T: TreeRow>(rows: u32, n: u32) -> Spot
     ensures number { level_start (shape_of T.layout rows) result.level + result.at ≡ n }
     ensures low { result.level ≤ 33 }
 {
-    let root = root_level::<T>(rows);
-    let n = u64::from(n);
-    for level in 0..root {
-        let here = level_at::<T>(rows, level);
-        if n < here.start + here.size {
-            return Spot {
-                level,
-                at: n - here.start,
-            };
-        }
-    }
-    Spot { level: root, at: 0 }
+    shape::<T>(rows).spot_of(n)
 }
 
 // How many rows stand below each full page of a level.
@@ -58,12 +40,7 @@ fn rows_below<T: TreeRow>(rows: u32, level: u8) -> u64
     ensures span { result ≡ span (shape_of T.layout rows) level }
     ensures below { result < 2 ^ 32 }
 {
-    let many = per_inner::<T>();
-    let mut step = per_leaf::<T>();
-    for _i in 0..level {
-        step *= many;
-    }
-    step
+    shape::<T>(rows).span(level)
 }
 
 // The row of a child: a key, and the child's number.

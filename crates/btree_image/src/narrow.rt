@@ -3,7 +3,7 @@
 ghost use Rattle.std.specs.Prelude.{◌≡◌, ◌≢◌, ℕ, suc, [], ◌+◌, ◌-◌, ◌*◌, ◌^◌, ◌<◌, ◌≤◌, min, List, length, map, slice_index_or, All, OnOk, IfOk, if◌then◌else◌};
 ghost use Rattle.std.specs.declared.cmp.Ordering.TheVariants.{Greater};
 ghost use Rattle.page_codec.specs.Page.{IsPage, row_count, rows_on, most_rows};
-ghost use Rattle.btree_image.specs.Shape.{level_size, IsPlace};
+ghost use Rattle.tree_shape.specs.Shape.{level_size, IsPlace};
 ghost use Rattle.btree_image.specs.Image.{shape_of, page_number, level_kind, AreLent, IsShown};
 ghost use Rattle.btree_image.specs.Steps.{reaches, IsLastUpTo};
 ghost use Rattle.btree_image.specs.Visited.{AreRanges};

@@ -4,10 +4,10 @@ ghost use Rattle.std.specs.Prelude.{◌≡◌, ◌≢◌, ℕ, suc, [], ◌++◌
 ghost use Rattle.dev_model.specs.Counts.{Rose};
 ghost use Rattle.dev_model.specs.Story.{WhereTold};
 ghost use Rattle.page_codec.specs.declared.faults.PageFault.TheVariants.{Failed, Damaged, OutOfMemory};
-ghost use Rattle.btree_image.specs.Shape.{IsRoot};
+ghost use Rattle.tree_shape.specs.Shape.{IsRoot};
 ghost use Rattle.btree_image.specs.Image.{shape_of, IsShown, AreLent};
 ghost use Rattle.btree_image.specs.Damage.{IsDamaged};
-ghost use Rattle.btree_image.specs.Asked.{Went, GoesBy};
+ghost use Rattle.tree_shape.specs.Asked.{Went, GoesBy};
 ghost use Rattle.btree_image.specs.Visited.{AreRanges, rows_met, visited_pages};
 ghost use Rattle.btree_image.specs.Walks.{GoesOn, GoesAlong, fault_of};
 

@@ -1,12 +1,14 @@
 use Rattle.std.proofs.Common.{◌≡◌, ℕ, suc, ◌-◌, ◌<◌, [], ◌∷◌, ◌++◌, All, arith, refl, sym, ◌∙◌, subst}
 use Rattle.std.specs.Prelude.{IsTrue}
 use Rattle.std.proofs.lemmas.List.Elements.{All-append}
-use Rattle.btree_image.specs.Shape.{IsPlace}
+use Rattle.tree_shape.specs.Shape.{IsPlace}
 use Rattle.btree_image.specs.Image.{shape_of, page_number, IsShown}
 use Rattle.btree_image.specs.Descent.{place_of_key, descent}
 use Rattle.btree_image.proofs.Widths.{leaf_room, inner_room}
-use Rattle.btree_image.proofs.Told.{place_next, rows_above}
-use Rattle.btree_image.proofs.Trail.{went-then, went-err, path_next, path_last, path_first, root_place, goes-by, given-append}
+use Rattle.tree_shape.specs.Laws.Places.{place_below, rows_above}
+use Rattle.tree_shape.specs.Laws.Trail.{goes-by, given-append}
+use Rattle.tree_shape.specs.Laws.Trail.{went-then, went-err}
+use Rattle.btree_image.proofs.Trail.{path_next, path_last, path_first, root_place}
 use Rattle.btree_image.proofs.descend.find.Goals as goal
 
 pub loop-level-init : goal.loop-level-init
@@ -39,7 +41,7 @@ returns-in-Err-clause-found g c list shown =
     let inv = c.loop-level.invariant in
     let place = subst (λ n. IsPlace (shape_of l c.args.tree.rows) n c.loop-level.at) e inv.place in
     c.in-Err.ensures.told list (subst (λ contents. IsShown l contents c.args.tree.first c.args.tree.rows list) (sym inv.same_contents) shown)
-    (rows_above l c.args.tree.rows (c.loop-level.level - 1) c.loop-level.at (leaf_room l _ _ _ k) place)
+    (rows_above (shape_of l c.args.tree.rows) (c.loop-level.level - 1) c.loop-level.at (leaf_room l _ _ _ k) place)
     (subst (λ n. c.loop-level.at ≡ place_of_key l list c.args.key.now n) e (inv.told list shown))
 
 pub returns-in-Err-clause-asked : goal.returns-in-Err-clause-asked
@@ -66,11 +68,11 @@ loop-level-preserved g c =
     let e = above c.loop-level.level c.loop-level-test.true in
     let inv = c.loop-level.invariant in
     let place = subst (λ n. IsPlace (shape_of l c.args.tree.rows) n c.loop-level.at) e inv.place in
-    let some = rows_above l c.args.tree.rows (c.loop-level.level - 1) c.loop-level.at (leaf_room l _ _ _ k) place in
+    let some = rows_above (shape_of l c.args.tree.rows) (c.loop-level.level - 1) c.loop-level.at (leaf_room l _ _ _ k) place in
     let page = page_number l c.args.tree.first c.args.tree.rows (suc (c.loop-level.level - 1)) c.loop-level.at in
     let went = c.in-Ok.ensures.went in
     record {
-      place = place_next l c.args.tree.rows (c.loop-level.level - 1) c.loop-level.at c.in-Ok.place place c.in-Ok.ensures.inside;
+      place = place_below (shape_of l c.args.tree.rows) (c.loop-level.level - 1) c.loop-level.at c.in-Ok.place place c.in-Ok.ensures.inside;
       low = let low = inv.low in omega arith;
       same_lent = c.in-Ok.ensures.same_lent ∙ inv.same_lent;
       same_contents = c.in-Ok.ensures.same_contents ∙ inv.same_contents;

@@ -1,11 +1,12 @@
 use Rattle.std.proofs.Common.{◌≡◌, suc, ◌+◌, ◌<◌, ◌^◌, arith, sym, ◌∙◌, Some, None}
 use Rattle.std.proofs.Math.Numerals.{add-one}
-use Rattle.btree_image.specs.Shape.{level_start}
+use Rattle.tree_shape.specs.Shape.{level_start}
 use Rattle.btree_image.specs.Image.{shape_of}
 use Rattle.btree_image.specs.Descent.{place_of_key}
 use Rattle.btree_image.proofs.Widths.{leaf_room, inner_room}
-use Rattle.btree_image.proofs.Told.{place-inside, shown_read, place_next}
-use Rattle.btree_image.proofs.Trail.{went-failed}
+use Rattle.tree_shape.specs.Laws.Places.{place_below}
+use Rattle.btree_image.proofs.Told.{place-inside, shown_read}
+use Rattle.tree_shape.specs.Laws.Trail.{went-failed}
 use Rattle.btree_image.proofs.descend.step.Goals as goal
 
 pub returns-in-Err-clause-went : goal.returns-in-Err-clause-went
@@ -19,7 +20,7 @@ returns-in-Some-clause-told g c list shown some e =
     let a = leaf_room l _ _ _ k in
     let b = inner_room l _ _ _ k in
     let inside = place-inside l k.key_order a b c.args.tree.rows list shown.is c.args.key.now c.args.below in
-    let next = place_next l c.args.tree.rows c.args.below c.args.at _ c.requires.place inside in
+    let next = place_below (shape_of l c.args.tree.rows) c.args.below c.args.at _ c.requires.place inside in
     let n = g.met.P.Pages.lent_fits c.args.pages.now _ (c.requires.lent c.args.below (place_of_key l list c.args.key.now c.args.below) next) in
     let fits : level_start (shape_of l c.args.tree.rows) c.args.below + place_of_key l list c.args.key.now c.args.below < 2 ^ 32 = omega (arith, n) in
     let shows = shown_read l list c.args.tree.first c.args.tree.rows _ shown c.read_place.new.buf (suc c.args.below) c.args.at c.requires.place (rw add-one at c.in-Ok.ensures.bytes) in
@@ -34,7 +35,7 @@ returns-in-None-clause-told g c list shown some e =
     let a = leaf_room l _ _ _ k in
     let b = inner_room l _ _ _ k in
     let inside = place-inside l k.key_order a b c.args.tree.rows list shown.is c.args.key.now c.args.below in
-    let next = place_next l c.args.tree.rows c.args.below c.args.at _ c.requires.place inside in
+    let next = place_below (shape_of l c.args.tree.rows) c.args.below c.args.at _ c.requires.place inside in
     let n = g.met.P.Pages.lent_fits c.args.pages.now _ (c.requires.lent c.args.below (place_of_key l list c.args.key.now c.args.below) next) in
     let fits : level_start (shape_of l c.args.tree.rows) c.args.below + place_of_key l list c.args.key.now c.args.below < 2 ^ 32 = omega (arith, n) in
     let shows = shown_read l list c.args.tree.first c.args.tree.rows _ shown c.read_place.new.buf (suc c.args.below) c.args.at c.requires.place (rw add-one at c.in-Ok.ensures.bytes) in

@@ -3,12 +3,12 @@ use Rattle.std.proofs.lemmas.List.{append-nil}
 use Rattle.page_codec.specs.Page.{rows_on}
 use Rattle.btree_image.specs.Damage.{AllReadable}
 use Rattle.btree_image.specs.Image.{shape_of}
-use Rattle.btree_image.specs.Shape.{IsPlace}
+use Rattle.tree_shape.specs.Shape.{IsPlace}
 use Rattle.btree_image.specs.Walks.{IsInHand, in_hand}
 use Rattle.btree_image.proofs.Widths.{leaf_room, inner_room}
 use Rattle.btree_image.proofs.Along.{goes-holding, goes-copied, on_ok}
 use Rattle.btree_image.proofs.Places.{hand-ends}
-use Rattle.btree_image.proofs.Told.{shown_read, damaged_at, readable}
+use Rattle.btree_image.proofs.Told.{readable, shown_read, damaged_at}
 use Rattle.btree_image.proofs.Gathered.{copied, shown_rows, from-told, to-told, short}
 use Rattle.btree_image.proofs.gather.gather_page.Goals as goal
 

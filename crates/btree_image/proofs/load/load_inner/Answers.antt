@@ -4,11 +4,13 @@ use Rattle.std.proofs.Math.Numerals.{add-one}
 use Rattle.std.specs.Int.{to_be_bytes, w32}
 use Rattle.page_codec.specs.Page.{row_width, most_rows, kind_of, row_count, page_of, AllOfWidth, ShowsRows}
 use Rattle.page_codec.specs.Laws.{ShowsRows-page_of}
-use Rattle.btree_image.specs.Shape.{level_size, span}
-use Rattle.btree_image.specs.Image.{shape_of, level_rows, child_row, numbers, children_at}
+use Rattle.tree_shape.specs.Shape.{level_size, span}
+use Rattle.tree_shape.specs.Shape.{numbers, children_at}
+use Rattle.btree_image.specs.Image.{shape_of, level_rows, child_row}
 use Rattle.btree_image.proofs.Widths.{most_rows-least, leaf_room, inner_room}
-use Rattle.btree_image.proofs.Numbers.{length-numbers, children_at-numbers}
-use Rattle.btree_image.proofs.Loading.{kind_of-page_of, wide-snoc, one_more_number, room, pages_fit, page_begins, get_at, first_row}
+use Rattle.tree_shape.specs.Laws.Numbers.{length-numbers, children_at-numbers}
+use Rattle.tree_shape.specs.Laws.Writing.{kind_of-page_of, wide-snoc, one_more_number, room, get_at}
+use Rattle.tree_shape.specs.Laws.Places.{pages_fit, page_begins, first_row}
 use Rattle.btree_image.proofs.load.load_inner.Goals as goal
 
 pub overflow_mul-from : goal.overflow_mul-from
@@ -41,14 +43,14 @@ pub bounds-rows-child : goal.bounds-rows-child
 bounds-rows-child g c =
     let l = g.T.TreeRow.layout in
     let k = g.met.T.TreeRow.kinds in
-    first_row l (length c.args.rows.now) c.args.below c.args.at c.loop-child.child c.rows_below-step.result (leaf_room l _ _ _ k) (inner_room l _ _ _ k) c.requires.place
+    first_row (shape_of l (length c.args.rows.now)) c.args.below c.args.at c.loop-child.child c.rows_below-step.result (leaf_room l _ _ _ k) (inner_room l _ _ _ k) c.requires.place
     (omega (arith, c.min-to.ensures, c.level_at-here.ensures.size)) c.rows_below-step.ensures.span
 
 pub offset_bounds-rows-child : goal.offset_bounds-rows-child
 offset_bounds-rows-child g c =
     let l = g.T.TreeRow.layout in
     let k = g.met.T.TreeRow.kinds in
-    let row = first_row l (length c.args.rows.now) c.args.below c.args.at c.loop-child.child c.rows_below-step.result (leaf_room l _ _ _ k) (inner_room l _ _ _ k) c.requires.place
+    let row = first_row (shape_of l (length c.args.rows.now)) c.args.below c.args.at c.loop-child.child c.rows_below-step.result (leaf_room l _ _ _ k) (inner_room l _ _ _ k) c.requires.place
     (omega (arith, c.min-to.ensures, c.level_at-here.ensures.size)) c.rows_below-step.ensures.span in
     omega arith
 
@@ -76,7 +78,7 @@ pub loop-child-preserved : goal.loop-child-preserved
 loop-child-preserved g c =
     let l = g.T.TreeRow.layout in
     let k = g.met.T.TreeRow.kinds in
-    let within = first_row l (length c.args.rows.now) c.args.below c.args.at c.loop-child.child c.rows_below-step.result (leaf_room l _ _ _ k) (inner_room l _ _ _ k) c.requires.place
+    let within = first_row (shape_of l (length c.args.rows.now)) c.args.below c.args.at c.loop-child.child c.rows_below-step.result (leaf_room l _ _ _ k) (inner_room l _ _ _ k) c.requires.place
     (omega (arith, c.min-to.ensures, c.level_at-here.ensures.size)) c.rows_below-step.ensures.span in
     let s = shape_of l (length c.args.rows.now) in
     let from = c.args.at * c.per_inner-many.result in

@@ -1,6 +1,7 @@
 use Rattle.std.proofs.Common.{◌≡◌, ◌-◌, suc, map}
 use Rattle.page_codec.specs.Page.{page_of, row_width, AllOfWidth}
-use Rattle.btree_image.specs.Image.{child_row, numbers}
+use Rattle.tree_shape.specs.Shape.{numbers}
+use Rattle.btree_image.specs.Image.{child_row}
 use Rattle.btree_image.proofs.load.load_inner.Given as goal
 
 abbrev pub invariant-loop-child : goal.invariant-loop-child

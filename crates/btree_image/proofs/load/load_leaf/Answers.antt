@@ -4,7 +4,9 @@ use Rattle.page_codec.specs.Page.{row_width, most_rows, kind_of, page_of, AllOfW
 use Rattle.page_codec.specs.Laws.{ShowsRows-page_of}
 use Rattle.btree_image.specs.Image.{shape_of, level_rows}
 use Rattle.btree_image.proofs.Widths.{leaf_room, inner_room}
-use Rattle.btree_image.proofs.Loading.{kind_of-page_of, wide-snoc, one_more_row, all_rows, page_within, room}
+use Rattle.tree_shape.specs.Laws.Writing.{kind_of-page_of, wide-snoc, room}
+use Rattle.tree_shape.specs.Laws.Places.{page_within}
+use Rattle.tree_shape.specs.Laws.Writing.{one_more_row, all_rows}
 use Rattle.btree_image.proofs.load.load_leaf.Goals as goal
 
 pub overflow_mul-from : goal.overflow_mul-from

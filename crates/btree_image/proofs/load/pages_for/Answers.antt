@@ -1,29 +1,19 @@
-use Rattle.std.proofs.Common.{◌+◌, ◌∙◌, ap, arith}
-use Rattle.btree_image.specs.Shape.{level_start}
+use Rattle.std.proofs.Common.{ℕ, ◌+◌, ◌<◌, arith, ap, subst}
+use Rattle.tree_shape.specs.Shape.{level_start, IsPlace}
 use Rattle.btree_image.specs.Image.{shape_of}
 use Rattle.btree_image.proofs.Widths.{most_rows-least, inner_room}
-use Rattle.btree_image.proofs.Loading.{pages_fit, before_root}
-use Rattle.btree_image.proofs.Trail.{root_unique}
+use Rattle.tree_shape.specs.Laws.Places.{pages_fit}
 use Rattle.btree_image.proofs.load.pages_for.Goals as goal
 
 pub overflow_cast-result : goal.overflow_cast-result
 overflow_cast-result g c =
     let l = g.T.TreeRow.layout in
     let k = g.met.T.TreeRow.kinds in
-    let fits = pages_fit (shape_of l c.args.rows) (most_rows-least l.leaf k.leaf_kind) (inner_room l _ _ _ k) (omega arith) c.root_level.result (let low = c.root_level.ensures.low in omega arith) in
-    omega (arith, fits, c.level_at-root.ensures.start)
-
-pub returns-clause-root : goal.returns-clause-root
-returns-clause-root g c = (c.root_level.result, c.root_level.ensures.root, ap (λ start. start + 1) c.level_at-root.ensures.start)
-
-pub returns-clause-last : goal.returns-clause-last
-returns-clause-last g c root at_root =
-    let s = shape_of g.T.TreeRow.layout c.args.rows in
-    ap (λ start. start + 1) (c.level_at-root.ensures.start ∙ ap (level_start s) (root_unique s c.root_level.result root c.root_level.ensures.root at_root))
+    let root = c.pages.ensures.root in
+    let start = ap (λ s. level_start s root.0) c.shape.ensures.shape in
+    let fits = pages_fit (shape_of l c.args.rows) (most_rows-least l.leaf k.leaf_kind) (inner_room l _ _ _ k) (omega arith) root.0 (let low = root.2 in omega arith) in
+    omega (arith, fits, start, root.3)
 
 pub returns-clause-all : goal.returns-clause-all
-returns-clause-all g c level at place =
-    let s = shape_of g.T.TreeRow.layout c.args.rows in
-    let start = c.level_at-root.ensures.start in
-    let below = before_root s c.root_level.result level at c.root_level.ensures.root place in
-    omega (arith, start, below)
+returns-clause-all g c =
+    subst (λ s. (level at : ℕ) → IsPlace s level at → level_start s level + at < c.pages.result) c.shape.ensures.shape c.pages.ensures.all

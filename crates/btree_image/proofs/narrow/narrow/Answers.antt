@@ -3,7 +3,7 @@ use Rattle.std.proofs.lemmas.List.{get_or-set_other, length-set}
 use Rattle.std.specs.declared.cmp.Ordering.TheVariants.{Less, Greater}
 use Rattle.btree_image.specs.declared.runs.Run.{Run}
 use Rattle.btree_image.specs.Image.{page_number, shape_of, IsShown}
-use Rattle.btree_image.specs.Shape.{level_size}
+use Rattle.tree_shape.specs.Shape.{level_size}
 use Rattle.btree_image.specs.Walks.{IsInHand, places_in, next_behind, walk, run_of, Leads}
 use Rattle.btree_image.proofs.Along.{goes-on, goes-short, goes-same, goes-nowhere}
 use Rattle.btree_image.proofs.Places.{pages-next, pages-done, walk-next, behind-most, same_default, one-more}

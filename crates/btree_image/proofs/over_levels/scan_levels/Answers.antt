@@ -2,12 +2,12 @@ use Rattle.std.proofs.Common.{◌≡◌, ℕ, ◌+◌, ◌-◌, ◌<◌, ◌≤�
 use Rattle.std.proofs.lemmas.List.{append-nil}
 use Rattle.std.proofs.lemmas.Bool.{eqb-true, eqb-false}
 use Rattle.btree_image.specs.declared.runs.Run.{Run}
-use Rattle.btree_image.specs.Shape.{level_size, level_start}
+use Rattle.tree_shape.specs.Shape.{level_size, level_start}
 use Rattle.btree_image.specs.Image.{shape_of, page_number, IsShown}
 use Rattle.btree_image.specs.Visited.{met_below, visited_pages}
 use Rattle.btree_image.specs.Walks.{fault_of, walk, AllLead}
 use Rattle.btree_image.proofs.Widths.{leaf_room, inner_room}
-use Rattle.btree_image.proofs.Trail.{root_unique}
+use Rattle.tree_shape.specs.Laws.Places.{root_unique}
 use Rattle.btree_image.proofs.Along.{goes-on, goes-same, goes-nowhere, ok_always, along-whole}
 use Rattle.btree_image.proofs.Places.{place-one}
 use Rattle.btree_image.proofs.Once.{still-once, still-above}

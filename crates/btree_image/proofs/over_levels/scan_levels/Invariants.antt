@@ -1,5 +1,5 @@
 use Rattle.std.proofs.Common.{◌≡◌, ◌≢◌, ℕ, suc, ◌+◌, ◌<◌, ◌≤◌, List, [], ◌++◌, None, map, length, All, AllPairs}
-use Rattle.btree_image.specs.Shape.{level_size, level_start, IsRoot}
+use Rattle.tree_shape.specs.Shape.{level_size, level_start, IsRoot}
 use Rattle.btree_image.specs.Image.{shape_of, page_number, IsShown}
 use Rattle.btree_image.specs.Visited.{AreRanges, met_below, visited_pages}
 use Rattle.btree_image.specs.Walks.{GoesOn, walk, AllLead}

@@ -1,10 +1,10 @@
 use Rattle.std.proofs.Common.{◌+◌, ◌^◌, arith}
 use Rattle.std.proofs.lemmas.Bool.{lt-ltb}
-use Rattle.btree_image.specs.Shape.{level_start}
+use Rattle.tree_shape.specs.Shape.{level_start}
 use Rattle.btree_image.specs.Image.{shape_of}
 use Rattle.btree_image.specs.TestRows.{number_layout, number_kinds}
 use Rattle.btree_image.proofs.Widths.{inner_room, most_rows-least}
-use Rattle.btree_image.proofs.Lent.{number_fits}
+use Rattle.tree_shape.specs.Laws.Places.{number_fits}
 use Rattle.btree_image.proofs.tests.scanned.Goals as goal
 
 pub scan-requires : goal.scan-requires

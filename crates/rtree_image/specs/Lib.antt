@@ -1,0 +1,7 @@
+pub mod Rows
+pub mod Bounds
+pub mod Image
+pub mod Visits
+pub mod Damage
+pub mod Steps
+pub mod TestPages
