@@ -84,7 +84,7 @@ fn scan_runs<T: TreeRow, P: Pages>(
 /// `Failed` where a page is not given, `Damaged` where the page that was read last is none for its place, and `OutOfMemory`
 /// where there is no memory for the rows or for a place for each range: `out` is then as before. A page's header is tested,
 /// and of its rows what is given back. The pages are asked for level by level from the root, each once: the root, and each
-/// page of whose keys some lie in a range, or may.
+/// page whose span of keys meets a range.
 pub fn scan<T: TreeRow, P: Pages>(
     pages: &mut P,
     tree: TreeRef,
