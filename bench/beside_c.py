@@ -10,12 +10,16 @@ TOP = Path(__file__).resolve().parent.parent
 
 
 def build_proved(folder, here, crates):
-    """Builds main.rt.txt in a copy of the crates that it needs. `crates` gives for each what it stands on."""
+    """Builds main.rt.txt, with its specs and proofs, in a copy of the crates that it needs. `crates` gives for each what it stands on."""
     for crate in crates:
         shutil.copytree(TOP / "crates" / crate, folder / "crates" / crate, ignore=shutil.ignore_patterns("out", "must-fail"))
     program = folder / "crates" / "measured"
     (program / "src").mkdir(parents=True)
     shutil.copy(here / "main.rt.txt", program / "src" / "main.rt")
+    for text in here.glob("*/**/*.antt.txt"):
+        place = program / text.relative_to(here).with_suffix("")
+        place.parent.mkdir(parents=True, exist_ok=True)
+        shutil.copy(text, place)
     lines = [f"{crate}: {' '.join(below)}\n" for crate, below in {**crates, "measured": list(crates)}.items()]
     (folder / "crates.txt").write_text("".join(lines))
     built = subprocess.run(["rt", "run"], cwd=program, capture_output=True, text=True)

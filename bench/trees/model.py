@@ -1,7 +1,9 @@
 #!/usr/bin/env python3
-"""A plain model of trees on pages: pages as lists of bytes, and a descent that looks at every row.
+"""A plain model of trees on pages: pages as lists of bytes, a descent that looks at every row, and a scan that filters the
+list and looks at the span of every page.
 
-Prints the table of the tests: rows, pages, first bytes of the root, a key, whether it is there, and the pages of its descent.
+Prints the tables of the tests. Descents: rows, pages, a key, whether it is there, the pages of its descent, first bytes of
+the root. Scans: rows, ranges, how many rows lie in them, the first four pages that are asked for, how many they are.
 """
 import struct
 
@@ -46,3 +48,33 @@ for n in [0, 1, 52, 53, 17680, 17681, 20000]:
     for key in sorted({0, 1, 2, 157, 3 * n - 2 if n else 5, 3 * n + 7, 53041, 30000}):
         found, way = descent(pages, key)
         print(f"({n}, {len(pages)}, {key}, {str(found).lower()}, &{way}, {list(pages[-1][:20])}),")
+
+
+def scan(keys, ranges):
+    sizes = [max(-(-len(keys) // LEAF), 1)]
+    while sizes[-1] > 1:
+        sizes.append(-(-sizes[-1] // INNER))
+    root = len(sizes) - 1
+    pages = [sum(sizes[:root])]
+    for level in range(root - 1, -1, -1):
+        span = LEAF * INNER ** level
+        for at in range(sizes[level]):
+            first = keys[at * span]
+            end = keys[(at + 1) * span] if (at + 1) * span < len(keys) else None
+            if any(first <= high and (end is None or low < end) for low, high in ranges):
+                pages.append(sum(sizes[:level]) + at)
+    return [k for k in keys if any(low <= k <= high for low, high in ranges)], pages
+
+
+MOST = 2 ** 64 - 1
+for n, ranges in [
+    (0, []), (0, [(0, MOST)]), (1, []), (1, [(0, 0)]), (1, [(1, 1)]), (1, [(2, 9)]),
+    (52, [(0, MOST)]), (52, [(154, 154)]), (52, [(155, MOST)]), (52, [(4, 7), (8, 9), (10, 10)]),
+    (53, []), (53, [(0, 0)]), (53, [(0, MOST)]), (53, [(154, 154)]), (53, [(155, 156)]), (53, [(157, 157)]),
+    (53, [(154, 157)]), (53, [(0, 1), (153, 155), (158, MOST)]), (53, [(158, MOST)]),
+    (105, [(0, 0), (160, 160), (400, 500)]), (105, [(1, 1), (313, 313)]), (105, [(2, 3), (155, 156)]),
+    (17681, []), (17681, [(0, 0)]), (17681, [(53041, 53041)]), (17681, [(0, MOST)]), (17681, [(53038, 53041)]),
+    (17681, [(1, 1), (30000, 30400), (53050, MOST)]), (17681, [(53035, 53036), (53039, 53040)]),
+]:
+    rows, pages = scan([3 * i + 1 for i in range(n)], ranges)
+    print(f"({n}, {ranges}, {len(rows)}, {(pages + [0] * 4)[:4]}, {len(pages)}),")

@@ -70,7 +70,7 @@ module _ {T K : Type 0} (l : Layout T K) (o : IsKeyOrder l.order) (rows : List T
   place level = place_of_key l rows key level
 
   -- the descent reaches a child up to the key's place
-  reaches-up_to : (level c : ℕ) → c * span tree level < length rows → c * span tree level < rank l rows key
+  pub reaches-up_to : (level c : ℕ) → c * span tree level < length rows → c * span tree level < rank l rows key
       → reaches l key (child_row l rows level c) ≡ true
   reaches-up_to level c inside h =
       let s = stands rows (c * span tree level) inside in
@@ -79,7 +79,7 @@ module _ {T K : Type 0} (l : Layout T K) (o : IsKeyOrder l.order) (rows : List T
       ∙ subst (λ row. not (is_gt (l.order (l.key_of row) key)) ≡ true) s.read below
 
   -- and none behind it
-  reaches-none : (level c : ℕ) → c * span tree level < length rows → rank l rows key ≤ c * span tree level
+  pub reaches-none : (level c : ℕ) → c * span tree level < length rows → rank l rows key ≤ c * span tree level
       → reaches l key (child_row l rows level c) ≡ false
   reaches-none level c inside h =
       let s = stands rows (c * span tree level) inside in

@@ -1,5 +1,5 @@
 -- A binary search for the last row whose key is at most a key.
-use Rattle.std.proofs.Common.{◌≡◌, ℕ, ◌<◌, ◌≤◌, true, false, List, length, inl, inr}
+use Rattle.std.proofs.Common.{◌≡◌, ℕ, ◌+◌, ◌<◌, ◌≤◌, Bool, true, false, List, length, inl, inr, sym, ◌∙◌, ap, if◌then◌else◌}
 use Rattle.std.proofs.lemmas.Bool.{cases_lt}
 use Rattle.std.specs.Prelude.{[], slice_index_or}
 use Rattle.btree_image.specs.Rows.{Layout}
@@ -17,3 +17,10 @@ module _ {T K : Type 0} (l : Layout T K) (key : K) (rows : List (List ℕ)) (pla
     | inl lt ↦ lt
     | inr le ↦ absurd (let yes_it_does = is.up_to i some le in cc)
   ]
+
+-- the rows up to a place, where the row there is counted or not
+pub counted : (q : ℕ → Bool) (last place : ℕ) → last ≡ place → q last ≡ true → last + 1 ≡ (if q place then place + 1 else place)
+counted q last place same h = let there : q place ≡ true = ap q (sym same) ∙ h in rw there (ap (λ n. n + 1) same)
+
+pub not_counted : (q : ℕ → Bool) (last place : ℕ) → last ≡ place → q last ≡ false → last ≡ (if q place then place + 1 else place)
+not_counted q last place same h = let there : q place ≡ false = ap q (sym same) ∙ h in rw there same

@@ -6,3 +6,12 @@ pub mod Leaf
 pub mod Found
 pub mod Told
 pub mod Trail
+pub mod Along
+pub mod Places
+pub mod Shown
+pub mod Ranks
+pub mod Narrowed
+pub mod Gathered
+pub mod MetRanges
+pub mod Once
+pub mod Visits

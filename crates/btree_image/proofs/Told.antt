@@ -85,24 +85,24 @@ module _ {T K : Type 0} (l : Layout T K) (o : IsKeyOrder l.order) (a : 1 ≤ mos
     abbrev spot : ℕ
     spot = last - at * w
 
-    leaf_rows : rows_on bytes ≡ map l.to_bytes part
+    pub leaf_rows : rows_on bytes ≡ map l.to_bytes part
     unfolding level_rows
     leaf_rows = shows.all
 
-    leaf_count : row_count bytes ≡ min w (length list - at * w)
+    pub leaf_count : row_count bytes ≡ min w (length list - at * w)
     leaf_count =
         let all = length-rows_on bytes in
         sym all ∙ (ap length leaf_rows ∙ (length-map part l.to_bytes ∙ part-length l o list is.ascends is.stored key a at e))
 
     -- the row of a leaf at a place
-    row_there : (i : ℕ) → i < row_count bytes → (s : Stands list (at * w + i)) → slice_index_or (rows_on bytes) i [] ≡ l.to_bytes s.row
+    pub row_there : (i : ℕ) → i < row_count bytes → (s : Stands list (at * w + i)) → slice_index_or (rows_on bytes) i [] ≡ l.to_bytes s.row
     row_there i h s =
         let long : i < length part = rw (part-length l o list is.ascends is.stored key a at e) (omega (arith, leaf_count)) in
         ap (λ ys. slice_index_or ys i []) leaf_rows
         ∙ (get_or-map l.to_bytes part i s.row [] long
         ∙ ap l.to_bytes (get_or-take w (drop (at * w) list) i s.row (omega (arith, leaf_count)) ∙ (get_or-drop (at * w) list i s.row ∙ s.read)))
 
-    key_there : (i : ℕ) → i < row_count bytes → (s : Stands list (at * w + i)) → l.key_of_bytes (take l.key_width (slice_index_or (rows_on bytes) i [])) ≡ l.key_of s.row
+    pub key_there : (i : ℕ) → i < row_count bytes → (s : Stands list (at * w + i)) → l.key_of_bytes (take l.key_width (slice_index_or (rows_on bytes) i [])) ≡ l.key_of s.row
     key_there i h s =
         let st = stored_at l list is.stored (at * w + i) s (omega (arith, leaf_count)) in
         ap (λ row. l.key_of_bytes (take l.key_width row)) (row_there i h s) ∙ (ap l.key_of_bytes st.key_first ∙ st.key_back)

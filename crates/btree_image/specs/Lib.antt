@@ -4,3 +4,5 @@ pub mod Descent
 pub mod Damage
 pub mod Steps
 pub mod TestRows
+pub mod Visited
+pub mod Walks

@@ -1,11 +1,15 @@
 -- No public contract needs this file: the steps of the readers.
 use Rattle.std.specs.Prelude.{◌≡◌, ℕ, ◌<◌, ◌≤◌, Bool, true, false, not, List, [], take, length, slice_index_or, Option, None, if◌then◌else◌}
-use Rattle.std.specs.Ordering.{is_gt, eq_by_cmp}
+use Rattle.std.specs.Ordering.{is_gt, is_lt, eq_by_cmp}
 use Rattle.btree_image.specs.Rows.{Layout}
 
 -- the key at the front of a row is at most that key
 abbrev pub reaches : {T K : Type 0} → Layout T K → K → List ℕ → Bool
 reaches l key row = not (is_gt (l.order (l.key_of_bytes (take l.key_width row)) key))
+
+-- the key at the front of a row is below that key
+abbrev pub precedes : {T K : Type 0} → Layout T K → K → List ℕ → Bool
+precedes l key row = is_lt (l.order (l.key_of_bytes (take l.key_width row)) key)
 
 -- the last row whose key is at most that key, or the first row
 pub record IsLastUpTo {T K : Type 0} (l : Layout T K) (key : K) (rows : List (List ℕ)) (place : ℕ) : Type 0 where

@@ -1,11 +1,11 @@
 //! A search in one page: binary, over the rows where they stand.
 
-ghost use Rattle.std.specs.Prelude.{◌≡◌, ◌≢◌, ℕ, suc, [], ◌+◌, ◌<◌, ◌≤◌, Some, length, OnOk, OnErr, IfOk, IfErr, IfSome, IfNone, MatchResult, List, None, slice_index_or, take, drop};
+ghost use Rattle.std.specs.Prelude.{◌≡◌, ◌≢◌, ℕ, suc, [], ◌+◌, ◌<◌, ◌≤◌, Some, length, OnOk, OnErr, IfOk, IfErr, IfSome, IfNone, MatchResult, List, None, slice_index_or, take, drop, if◌then◌else◌};
 ghost use Rattle.std.specs.Ordering.{eq_by_cmp};
 ghost use Rattle.std.specs.Int.{from_be_bytes, w32};
 ghost use Rattle.page_codec.specs.Page.{most_rows, row_width, row_count, rows_on, kind_of, IsPage, IsKind};
 ghost use Rattle.btree_image.specs.Rows.{Layout};
-ghost use Rattle.btree_image.specs.Steps.{reaches, IsLastUpTo, row_at};
+ghost use Rattle.btree_image.specs.Steps.{reaches, precedes, IsLastUpTo, row_at};
 ghost use Rattle.btree_image.specs.Damage.{AllReadable};
 
 use crate::TreeRow;
@@ -45,6 +45,60 @@ pub(crate) fn last_up_to<T: TreeRow>(page: &[u8; PAGE_BYTES], count: u16, key: &
         }
     }
     low
+}
+
+// Whether the key at the front of a row is below that key.
+fn precedes<T: TreeRow>(page: &[u8; PAGE_BYTES], i: u16, key: &T::Key) -> bool
+    requires kind { IsKind (kind_of page.now) }
+    requires width { T.layout.key_width ≤ row_width (kind_of page.now) }
+    requires fits { row_count page.now ≤ most_rows (kind_of page.now) }
+    requires in_rows { i < row_count page.now }
+    ensures { result ≡ precedes T.layout key.now (slice_index_or (rows_on page.now) i []) }
+{
+    let at = T::read_key(&row(page, i)[..T::KEY_WIDTH]);
+    T::compare_keys(&at, key) == Ordering::Less
+}
+
+// How many rows have a key that is at most that key.
+pub(crate) fn rows_up_to<T: TreeRow>(page: &[u8; PAGE_BYTES], count: u16, key: &T::Key) -> u16
+    requires kind { IsKind (kind_of page.now) }
+    requires width { T.layout.key_width ≤ row_width (kind_of page.now) }
+    requires fits { row_count page.now ≤ most_rows (kind_of page.now) }
+    requires all { count ≡ row_count page.now }
+    ensures most { result ≤ count }
+    ensures rows { (place : ℕ) → IsLastUpTo T.layout key.now (rows_on page.now) place
+        → result ≡ (if reaches T.layout key.now (slice_index_or (rows_on page.now) place []) then place + 1 else place) }
+{
+    if count == 0 {
+        return 0;
+    }
+    let last = last_up_to::<T>(page, count, key);
+    if reaches::<T>(page, last, key) {
+        last + 1
+    } else {
+        last
+    }
+}
+
+// How many rows have a key that is below that key.
+pub(crate) fn rows_before<T: TreeRow>(page: &[u8; PAGE_BYTES], count: u16, key: &T::Key) -> u16
+    requires kind { IsKind (kind_of page.now) }
+    requires width { T.layout.key_width ≤ row_width (kind_of page.now) }
+    requires fits { row_count page.now ≤ most_rows (kind_of page.now) }
+    requires all { count ≡ row_count page.now }
+    ensures most { result ≤ count }
+    ensures rows { (place : ℕ) → IsLastUpTo T.layout key.now (rows_on page.now) place
+        → result ≡ (if precedes T.layout key.now (slice_index_or (rows_on page.now) place []) then place + 1 else place) }
+{
+    if count == 0 {
+        return 0;
+    }
+    let last = last_up_to::<T>(page, count, key);
+    if precedes::<T>(page, last, key) {
+        last + 1
+    } else {
+        last
+    }
 }
 
 fn child_in(bytes: &[u8]) -> u32

@@ -3,13 +3,19 @@
 #![tactic(auto)]
 
 mod descend;
+mod gather;
+mod hand;
 mod in_page;
 mod levels;
 mod load;
+mod narrow;
+mod over_levels;
 mod rows;
+mod runs;
 #[cfg(test)]
 mod tests;
 
 pub use descend::find;
 pub use load::{load_page, pages_for};
+pub use over_levels::scan;
 pub use rows::TreeRow;

@@ -10,6 +10,7 @@ use std::cmp::Ordering;
 ///
 /// A row's bytes on a leaf begin with those of its key. Above the leaves a row is a key and the number of a page.
 pub trait TreeRow: Copy {
+    /// What rows are ordered by. No two rows of a tree have the same key.
     type Key: Copy;
 
     ghost layout: { Layout Self Self.Key };
@@ -29,26 +30,31 @@ pub trait TreeRow: Copy {
     /// The bytes of a key.
     const KEY_WIDTH: usize;
 
+    /// The key of a row.
     fn row_key(&self) -> Self::Key
         ensures { result ≡ layout.key_of self.now };
 
+    /// The order of keys, which is total: keys that are equal by it are the same.
     fn compare_keys(a: &Self::Key, b: &Self::Key) -> Ordering
         ensures { result ≡ layout.order a.now b.now };
 
+    /// Writes the row's bytes, which begin with its key's, into a slice of just their length.
     fn write(&self, out: &mut [u8])
         requires { length out.old ≡ row_width layout.leaf }
         ensures bytes { out.new ≡ layout.to_bytes self.now }
         ensures stored { IsStored layout self.now };
 
-    /// None where the bytes are no row.
+    /// The row that was written so, or `None` where the bytes are no row.
     fn read(bytes: &[u8]) -> Option<Self>
         requires { length bytes.now ≡ row_width layout.leaf }
         ensures { result ≡ layout.of_bytes bytes.now };
 
+    /// Writes the key's bytes into a slice of just their length.
     fn write_key(key: &Self::Key, out: &mut [u8])
         requires { length out.old ≡ layout.key_width }
         ensures { out.new ≡ layout.key_to_bytes key.now };
 
+    /// The key that was written so. Bytes that were never written may give any key.
     fn read_key(bytes: &[u8]) -> Self::Key
         requires { length bytes.now ≡ layout.key_width }
         ensures { result ≡ layout.key_of_bytes bytes.now };

@@ -3,7 +3,7 @@
 ghost use Rattle.std.specs.Prelude.{◌≡◌, ◌<◌, ◌^◌, ℕ, length, IfOk};
 ghost use Rattle.std.specs.Int.{from_be_bytes, w64};
 
-use crate::{TreeRow, find, load_page, pages_for};
+use crate::{TreeRow, find, load_page, pages_for, scan};
 use dev_model::{Failed, Pages};
 use page_codec::{PAGE_BYTES, PageFault, TreeRef};
 use std::alloc::{AllocError, Global};
@@ -105,8 +105,8 @@ impl Pages for Memory {
     fn read_page(&mut self, page: u32, buf: &mut [u8; 4096]) -> Result<(), Failed> {
         if self.count < 4 {
             self.asked[self.count] = page;
-            self.count += 1;
         }
+        self.count = self.count.saturating_add(1);
         if page != self.refused && (page as usize) < self.pages.len() {
             *buf = self.pages[page as usize];
             Ok(())
@@ -258,6 +258,189 @@ fn a_page_that_is_not_given_ends_a_descent(rt: HostRuntime) -> Result<(), Fail> 
         assert_eq!(rt; look(&mut pages, 53, key), want, "page {refused}");
         assert_eq!(rt; pages.asked, asked, "page {refused}");
         assert_eq!(rt; pages.count, count, "page {refused}");
+    }
+    Ok(())
+}
+
+// A scan of ranges, with the pages that it asks for.
+fn scanned(
+    pages: &mut Memory,
+    rows: u32,
+    ranges: &[(u64, u64)],
+    out: &mut Vec<u64>,
+) -> Result<(), PageFault> {
+    pages.count = 0;
+    pages.asked = [0; 4];
+    scan::<u64, Memory>(pages, TreeRef { first: 0, rows }, ranges, out)
+}
+
+// The first of three ranges.
+fn first(
+    alloc: Global,
+    ranges: &[(u64, u64); 3],
+    many: usize,
+) -> Result<Vec<(u64, u64)>, AllocError> {
+    let mut wanted = Vec::new(alloc);
+    wanted.extend_from_slice(ranges)?;
+    wanted.truncate(many);
+    Ok(wanted)
+}
+
+fn is_inside(ranges: &[(u64, u64)], key: u64) -> bool {
+    for range in ranges {
+        if range.0 <= key && key <= range.1 {
+            return true;
+        }
+    }
+    false
+}
+
+// The numbers of a list that lie in a range, behind one that stood there.
+fn plain(alloc: Global, list: &[u64], ranges: &[(u64, u64)]) -> Result<Vec<u64>, AllocError> {
+    let mut inside = vec![in alloc; 7]?;
+    for key in list {
+        if is_inside(ranges, *key) {
+            inside.push(*key)?;
+        }
+    }
+    Ok(inside)
+}
+
+#[test]
+fn a_scan_gives_the_rows_and_asks_for_the_pages_of_the_model(rt: HostRuntime) -> Result<(), Fail> {
+    // Rows, ranges, how many of them are asked for, how many rows lie in them, the first pages that are asked for, and how
+    // many they are.
+    let table = [
+        (0, [(0, 0), (0, 0), (0, 0)], 0, 0, [0, 0, 0, 0], 1),
+        (0, [(0, u64::MAX), (0, 0), (0, 0)], 1, 0, [0, 0, 0, 0], 1),
+        (1, [(0, 0), (0, 0), (0, 0)], 0, 0, [0, 0, 0, 0], 1),
+        (1, [(0, 0), (0, 0), (0, 0)], 1, 0, [0, 0, 0, 0], 1),
+        (1, [(1, 1), (0, 0), (0, 0)], 1, 1, [0, 0, 0, 0], 1),
+        (1, [(2, 9), (0, 0), (0, 0)], 1, 0, [0, 0, 0, 0], 1),
+        (52, [(0, u64::MAX), (0, 0), (0, 0)], 1, 52, [0, 0, 0, 0], 1),
+        (52, [(154, 154), (0, 0), (0, 0)], 1, 1, [0, 0, 0, 0], 1),
+        (52, [(155, u64::MAX), (0, 0), (0, 0)], 1, 0, [0, 0, 0, 0], 1),
+        (52, [(4, 7), (8, 9), (10, 10)], 3, 3, [0, 0, 0, 0], 1),
+        (53, [(0, 0), (0, 0), (0, 0)], 0, 0, [2, 0, 0, 0], 1),
+        (53, [(0, 0), (0, 0), (0, 0)], 1, 0, [2, 0, 0, 0], 1),
+        (53, [(0, u64::MAX), (0, 0), (0, 0)], 1, 53, [2, 0, 1, 0], 3),
+        (53, [(154, 154), (0, 0), (0, 0)], 1, 1, [2, 0, 0, 0], 2),
+        (53, [(155, 156), (0, 0), (0, 0)], 1, 0, [2, 0, 0, 0], 2),
+        (53, [(157, 157), (0, 0), (0, 0)], 1, 1, [2, 1, 0, 0], 2),
+        (53, [(154, 157), (0, 0), (0, 0)], 1, 2, [2, 0, 1, 0], 3),
+        (
+            53,
+            [(0, 1), (153, 155), (158, u64::MAX)],
+            3,
+            2,
+            [2, 0, 1, 0],
+            3,
+        ),
+        (53, [(158, u64::MAX), (0, 0), (0, 0)], 1, 0, [2, 1, 0, 0], 2),
+        (105, [(0, 0), (160, 160), (400, 500)], 3, 1, [3, 1, 2, 0], 3),
+        (105, [(1, 1), (313, 313), (0, 0)], 2, 2, [3, 0, 2, 0], 3),
+        (105, [(2, 3), (155, 156), (0, 0)], 2, 0, [3, 0, 0, 0], 2),
+        (17681, [(0, 0), (0, 0), (0, 0)], 0, 0, [343, 0, 0, 0], 1),
+        (17681, [(0, 0), (0, 0), (0, 0)], 1, 0, [343, 0, 0, 0], 1),
+        (
+            17681,
+            [(53041, 53041), (0, 0), (0, 0)],
+            1,
+            1,
+            [343, 342, 340, 0],
+            3,
+        ),
+        (
+            17681,
+            [(0, u64::MAX), (0, 0), (0, 0)],
+            1,
+            17681,
+            [343, 341, 342, 0],
+            344,
+        ),
+        (
+            17681,
+            [(53038, 53041), (0, 0), (0, 0)],
+            1,
+            2,
+            [343, 341, 342, 339],
+            5,
+        ),
+        (
+            17681,
+            [(1, 1), (30000, 30400), (53050, u64::MAX)],
+            3,
+            135,
+            [343, 341, 342, 0],
+            8,
+        ),
+        (
+            17681,
+            [(53035, 53036), (53039, 53040), (0, 0)],
+            2,
+            1,
+            [343, 341, 339, 0],
+            3,
+        ),
+    ];
+    for (rows, ranges, many, count, asked, pages_asked) in table {
+        let list = numbers(rt.alloc(), rows)?;
+        let mut pages = image(rt.alloc(), &list)?;
+        let ranges = first(rt.alloc(), &ranges, many)?;
+        let mut out = vec![in rt.alloc(); 7]?;
+        assert_eq!(rt;
+            scanned(&mut pages, rows, &ranges, &mut out),
+            Ok(()),
+            "{rows} rows"
+        );
+        assert_eq!(rt; out.len().saturating_sub(1), count, "{rows} rows");
+        assert_eq!(rt; out, plain(rt.alloc(), &list, &ranges)?, "{rows} rows");
+        assert_eq!(rt; pages.asked, asked, "{rows} rows");
+        assert_eq!(rt; pages.count, pages_asked, "{rows} rows");
+    }
+    Ok(())
+}
+
+#[test]
+fn a_scan_that_is_refused_leaves_the_list(rt: HostRuntime) -> Result<(), Fail> {
+    // Of 105 rows: a page that is not given, or else a page, a byte of it and its new value; the answer, and how many pages
+    // were asked for.
+    let table = [
+        (3, 0, 0, 1, Err(PageFault::Failed), 1),
+        (0, 0, 0, 1, Err(PageFault::Failed), 2),
+        (1, 0, 0, 1, Err(PageFault::Failed), 3),
+        (2, 0, 0, 1, Err(PageFault::Failed), 4),
+        (9, 3, 0, 1, Err(PageFault::Damaged { page: 3 }), 1),
+        (9, 3, 1, 0, Err(PageFault::Damaged { page: 3 }), 1),
+        (9, 3, 3, 0, Err(PageFault::Damaged { page: 3 }), 1),
+        (9, 3, 4, 1, Err(PageFault::Damaged { page: 3 }), 1),
+        (9, 0, 0, 2, Err(PageFault::Damaged { page: 0 }), 2),
+        (9, 0, 16, 1, Err(PageFault::Damaged { page: 0 }), 2),
+        (9, 1, 16, 1, Err(PageFault::Damaged { page: 1 }), 3),
+        (9, 2, 16, 1, Err(PageFault::Damaged { page: 2 }), 4),
+        (9, 2, 4095, 1, Ok(()), 4),
+    ];
+    let list = numbers(rt.alloc(), 105)?;
+    for (refused, page, at, byte, want, count) in table {
+        let mut pages = image(rt.alloc(), &list)?;
+        if refused == 9 {
+            spoil(&mut pages, page, at, byte);
+        } else {
+            pages.refused = refused;
+        }
+        let mut out = vec![in rt.alloc(); 7]?;
+        let answer = scanned(&mut pages, 105, &[(0, u64::MAX)], &mut out);
+        assert_eq!(rt; answer, want, "page {refused}, byte {at} of page {page}");
+        assert_eq!(rt;
+            pages.count,
+            count,
+            "page {refused}, byte {at} of page {page}"
+        );
+        assert_eq!(rt;
+            out.len(),
+            if answer == Ok(()) { 106 } else { 1 },
+            "page {refused}"
+        );
     }
     Ok(())
 }

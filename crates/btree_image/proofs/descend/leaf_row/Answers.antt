@@ -1,7 +1,7 @@
 use Rattle.std.proofs.Common.{◌∙◌, inl, inr, length}
 use Rattle.std.proofs.lemmas.Bool.{cases_lt}
 use Rattle.btree_image.proofs.Widths.{leaf_room, inner_room}
-use Rattle.btree_image.proofs.Told.{shown_read, readable, leaf_place, leaf_row-told, no_rows, damaged_at}
+use Rattle.btree_image.proofs.Told.{readable, shown_read, leaf_place, leaf_row-told, no_rows, damaged_at}
 use Rattle.tree_shape.specs.Laws.Trail.{went-failed}
 use Rattle.btree_image.proofs.descend.leaf_row.Goals as goal
 

@@ -1,0 +1,23 @@
+use Rattle.std.proofs.Common.{[], arith, sym, ◌∙◌}
+use Rattle.std.specs.Prelude.{slice_index_or}
+use Rattle.page_codec.specs.Page.{rows_on}
+use Rattle.btree_image.specs.Steps.{reaches}
+use Rattle.tree_shape.specs.Laws.Writing.{length-rows_on}
+use Rattle.btree_image.proofs.Halving.{counted, not_counted}
+use Rattle.btree_image.proofs.in_page.rows_up_to.Goals as goal
+
+pub returns-then-count-eq0-clause-rows : goal.returns-then-count-eq0-clause-rows
+returns-then-count-eq0-clause-rows g c place is =
+    let all = length-rows_on c.args.page.now in
+    let inside = is.inside in
+    absurd (omega (arith, c.requires.all))
+
+pub returns-then-reaches-clause-rows : goal.returns-then-reaches-clause-rows
+returns-then-reaches-clause-rows g c place is =
+    counted (λ i. reaches g.T.TreeRow.layout c.args.key.now (slice_index_or (rows_on c.args.page.now) i [])) _ place
+    (c.last_up_to-last.ensures.last place is) (sym c.reaches.ensures ∙ c.if-reaches.true)
+
+pub returns-else-reaches-clause-rows : goal.returns-else-reaches-clause-rows
+returns-else-reaches-clause-rows g c place is =
+    not_counted (λ i. reaches g.T.TreeRow.layout c.args.key.now (slice_index_or (rows_on c.args.page.now) i [])) _ place
+    (c.last_up_to-last.ensures.last place is) (sym c.reaches.ensures ∙ c.if-reaches.false)

@@ -1,0 +1,116 @@
+//! A scan of ranges of keys, level by level, with one page in hand.
+
+ghost use Rattle.std.specs.Prelude.{◌≡◌, ◌≢◌, ℕ, suc, [], ◌++◌, ◌+◌, ◌<◌, ◌≤◌, List, length, replicate, AllPairs, OnOk, OnErr, IfErr, MatchResult, ◌⊎◌};
+ghost use Rattle.dev_model.specs.Counts.{Rose};
+ghost use Rattle.dev_model.specs.Story.{WhereTold};
+ghost use Rattle.page_codec.specs.declared.faults.PageFault.TheVariants.{Failed, Damaged, OutOfMemory};
+ghost use Rattle.tree_shape.specs.Shape.{IsRoot};
+ghost use Rattle.btree_image.specs.Image.{shape_of, IsShown, AreLent};
+ghost use Rattle.btree_image.specs.Damage.{IsDamaged};
+ghost use Rattle.tree_shape.specs.Asked.{Went, GoesBy};
+ghost use Rattle.btree_image.specs.Visited.{AreRanges, rows_met, visited_pages};
+ghost use Rattle.btree_image.specs.Walks.{GoesOn, GoesAlong, fault_of};
+
+use crate::TreeRow;
+use crate::gather::gather;
+use crate::hand::{InHand, reach};
+use crate::levels::root_level;
+use crate::narrow::narrow;
+use crate::runs::Run;
+use dev_model::Pages;
+use page_codec::{PAGE_BYTES, PageFault, TreeRef};
+
+// Goes down from the root with a run for each range.
+fn scan_levels<T: TreeRow, P: Pages>(
+    pages: &mut P,
+    tree: TreeRef,
+    ranges: &[(T::Key, T::Key)],
+    runs: &mut [Run],
+    out: &mut Vec<T>,
+) -> Result<(), PageFault>
+    requires lent { AreLent T.layout (P.lent pages.old) tree.first tree.rows }
+    requires runs { runs.old ≡ replicate (length ranges.now) (record { first = 0; end = 1 }) }
+    ensures way { (way : List ℕ) × GoesOn T.layout tree.first tree.rows P.lent P.contents P.fault_count P.asked pages.old pages.new (fault_of result) [] way × AllPairs (λ a b. a ≢ b) way
+        × ((list : List T) (root : ℕ) → IsShown T.layout (P.contents pages.old) tree.first tree.rows list → AreRanges T.layout.order ranges.now → IsRoot (shape_of T.layout tree.rows) root
+        → GoesAlong (fault_of result) way (visited_pages T.layout list ranges.now tree.first root)) }
+    ensures adds { (added : List T) × (out.new.items ≡ out.old.items ++ added)
+        × ((list : List T) → IsShown T.layout (P.contents pages.old) tree.first tree.rows list → AreRanges T.layout.order ranges.now → OnOk result (added ≡ rows_met T.layout list ranges.now)) }
+{
+    let mut hand = InHand {
+        next: 0,
+        page: 0,
+        count: 0,
+        buf: [0; PAGE_BYTES],
+    };
+    let mut level = root_level::<T>(tree.rows);
+    if ranges.is_empty() {
+        return reach::<T, P>(pages, tree, level, 0, &mut hand);
+    }
+    while level > 0 {
+        level -= 1;
+        match narrow::<T, P>(pages, tree, level, ranges, runs, &mut hand) {
+            Ok(()) => {}
+            Err(fault) => return Err(fault),
+        }
+    }
+    gather(pages, tree, ranges, runs, &mut hand, out)
+}
+
+// A scan that leaves what it has found so far when it is refused.
+fn scan_runs<T: TreeRow, P: Pages>(
+    pages: &mut P,
+    tree: TreeRef,
+    ranges: &[(T::Key, T::Key)],
+    out: &mut Vec<T>,
+) -> Result<(), PageFault>
+    requires lent { AreLent T.layout (P.lent pages.old) tree.first tree.rows }
+    ensures way { (way : List ℕ) × GoesOn T.layout tree.first tree.rows P.lent P.contents P.fault_count P.asked pages.old pages.new (fault_of result) [] way × AllPairs (λ a b. a ≢ b) way
+        × ((list : List T) (root : ℕ) → IsShown T.layout (P.contents pages.old) tree.first tree.rows list → AreRanges T.layout.order ranges.now → IsRoot (shape_of T.layout tree.rows) root
+        → GoesAlong (fault_of result) way (visited_pages T.layout list ranges.now tree.first root)) }
+    ensures adds { (added : List T) × (out.new.items ≡ out.old.items ++ added)
+        × ((list : List T) → IsShown T.layout (P.contents pages.old) tree.first tree.rows list → AreRanges T.layout.order ranges.now → OnOk result (added ≡ rows_met T.layout list ranges.now)) }
+{
+    let mut runs = Vec::new(*out.allocator());
+    match runs.resize(ranges.len(), Run { first: 0, end: 1 }) {
+        Ok(()) => {}
+        Err(_) => return Err(PageFault::OutOfMemory),
+    }
+    scan_levels(pages, tree, ranges, &mut runs, out)
+}
+
+/// Appends the rows whose keys lie in the ranges, in the order of the tree's list. Ranges are closed, and each is behind the
+/// one before it.
+///
+/// `Failed` where a page is not given, `Damaged` where the page that was read last is none for its place, and `OutOfMemory`
+/// where there is no memory for the rows or for a place for each range: `out` is then as before. A page's header is tested,
+/// and of its rows what is given back. The pages are asked for level by level from the root, each once: the root, and each
+/// page whose span of keys meets a range.
+pub fn scan<T: TreeRow, P: Pages>(
+    pages: &mut P,
+    tree: TreeRef,
+    ranges: &[(T::Key, T::Key)],
+    out: &mut Vec<T>,
+) -> Result<(), PageFault>
+    requires { AreLent T.layout (P.lent pages.old) tree.first tree.rows }
+    ensures same_lent { P.lent pages.new ≡ P.lent pages.old }
+    ensures same_contents { P.contents pages.new ≡ P.contents pages.old }
+    ensures later { P.fault_count pages.old ≤ P.fault_count pages.new }
+    ensures failed { IfErr result (λ fault. fault ≡ Failed → Rose (P.fault_count pages.old) (P.fault_count pages.new)) }
+    ensures damaged { WhereTold (P.contents pages.old) (λ contents. IfErr result (λ fault. (page : ℕ) → fault ≡ Damaged page → IsDamaged T.layout tree.first tree.rows contents page)) }
+    ensures keeps { (added : List T) × (out.new.items ≡ out.old.items ++ added) }
+    ensures refused { OnErr result (out.new.items ≡ out.old.items) }
+    ensures rows { (list : List T) → IsShown T.layout (P.contents pages.old) tree.first tree.rows list → AreRanges T.layout.order ranges.now
+        → MatchResult result (λ _. out.new.items ≡ out.old.items ++ rows_met T.layout list ranges.now) (λ fault. (fault ≡ Failed) ⊎ (fault ≡ OutOfMemory)) }
+    ensures asked { (seen : List ℕ) × Went (P.lent pages.old) (P.asked pages.old pages.new) result seen × AllPairs (λ a b. a ≢ b) seen
+        × ((list : List T) (root : ℕ) → IsShown T.layout (P.contents pages.old) tree.first tree.rows list → AreRanges T.layout.order ranges.now → IsRoot (shape_of T.layout tree.rows) root
+        → GoesBy result seen (visited_pages T.layout list ranges.now tree.first root)) }
+{
+    let before = out.len();
+    match scan_runs(pages, tree, ranges, out) {
+        Ok(()) => Ok(()),
+        Err(fault) => {
+            out.truncate(before);
+            Err(fault)
+        }
+    }
+}
