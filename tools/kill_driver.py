@@ -26,6 +26,7 @@ import tempfile
 import time
 from collections import Counter
 from dataclasses import dataclass
+from difflib import unified_diff
 from pathlib import Path
 
 from plain_table import WHOLE, Count, Get, Put, Row, answers, prefixes, random_commands, random_keys, script_of
@@ -40,9 +41,11 @@ MOST_WRITES = 2048
 MOST_COMMANDS = 240
 KEYS = 48
 # Seconds after which a run counts as one that doesn't end.
-PATIENCE = 120
+PATIENCE = 60
 # At least this part of the kills has to fall between the first and the last write of a run.
 LEAST_AMID = 0.1
+# Lines that differ are shown up to this number.
+MOST_SHOWN = 12
 
 
 class Failure(Exception):
@@ -125,12 +128,9 @@ class State:
 
 def difference(printed, expected):
     """The first few lines that differ."""
-    lines = [text.splitlines() for text in (printed, expected)]
-    longest = max(map(len, lines))
-    pairs = zip(*(part + ["(nothing)"] * (longest - len(part)) for part in lines))
-    unlike = [(number, *pair) for number, pair in enumerate(pairs, 1) if pair[0] != pair[1]]
-    shown = [f"  line {number}: printed {was!r}, expected {due!r}" for number, was, due in unlike[:6]]
-    return "\n".join(shown + [f"  ... {len(unlike)} lines differ"])
+    lines = list(unified_diff(expected.splitlines(), printed.splitlines(), "expected", "printed", n=0, lineterm=""))
+    shown = [f"  {line}" for line in lines[:MOST_SHOWN]]
+    return "\n".join(shown + [f"  ... and {len(lines) - len(shown)} more lines"] * (len(lines) > len(shown)))
 
 
 def unlike_lines(printed, expected):
@@ -145,7 +145,10 @@ class Pace:
         self.a_command = {SERIAL: 0.002, FRESH: 0.002}
 
     def moment(self, chance, command, commands):
-        return chance.uniform(0, 1.05) * (self.start + self.a_command[command] * len(commands))
+        """Anywhere in a run; every fourth time while the file is opened, which takes a short part of it."""
+        opening = 1.2 * self.start
+        whole = 1.05 * (self.start + self.a_command[command] * len(commands))
+        return chance.uniform(0, opening if chance.random() < 0.25 else whole)
 
     def learn_start(self, seconds):
         self.start = (self.start + seconds) / 2
