@@ -1,0 +1,123 @@
+#!/usr/bin/env python3
+"""Measures a durable put against the bare device calls in C, and against SQLite, on the same file system.
+
+    python3 bench/durable/compare.py [PROGRAM] [--puts N] [--runs N] [--pages N] [--folder FOLDER]
+
+PROGRAM is crates/spatial/out/spatial where none is named. In turns, RUNS times (9), each on a new file in FOLDER
+(bench/out/durable) and with PUTS puts (500):
+
+- spatial: the time of `serial` with a script of the puts, without the time of one with an empty script.
+- bare: the same of bare.c, a loop over 96 bytes, a sync, 1 byte and a sync, on a file that was formatted in the same way.
+- SQLite: python's own module with journal_mode=WAL and synchronous=FULL, one transaction a put.
+
+It prints the medians of a put and the two ratios, and ends with status 1 where one is above its goal.
+"""
+import sqlite3
+import statistics
+import subprocess
+import sys
+import tempfile
+import time
+from pathlib import Path
+
+from stores import MOST_PUTS, expected_text, new_file, read_words, rows, script_of, words_of
+
+HERE = Path(__file__).resolve().parent
+sys.path.append(str(HERE.parent))
+from beside_c import build_c
+
+MOST_OVER_BARE = 1.2
+MOST_OVER_SQLITE = 1.4
+
+
+def timed(words, script=""):
+    """The seconds of a process, and what it printed."""
+    begun = time.perf_counter()
+    done = subprocess.run(words, input=script, capture_output=True, text=True)
+    seconds = time.perf_counter() - begun
+    if done.returncode != 0:
+        sys.exit(f"{words} ended with status {done.returncode}: {done.stdout[-300:]}{done.stderr[-300:]}")
+    return seconds, done.stdout
+
+
+def program_seconds(program, file, pages, puts):
+    new_file(program, file, pages)
+    words = [program, file, str(pages), "serial"]
+    empty, _ = timed(words)
+    full, text = timed(words, script_of(puts))
+    if text != expected_text(puts):
+        sys.exit("the puts weren't answered as on an empty table")
+    return (full - empty) / puts
+
+
+def bare_seconds(program, peer, file, pages, puts):
+    new_file(program, file, pages)
+    empty, _ = timed([peer, file, "0"])
+    full, _ = timed([peer, file, str(puts)])
+    return (full - empty) / puts
+
+
+def sqlite_seconds(folder, puts):
+    for old in folder.glob("rows.db*"):
+        old.unlink()
+    base = sqlite3.connect(folder / "rows.db", isolation_level=None)
+    if base.execute("PRAGMA journal_mode=WAL").fetchone() != ("wal",):
+        sys.exit("SQLite has no write-ahead log here")
+    base.execute("PRAGMA synchronous=FULL")
+    base.execute("CREATE TABLE rows (key INTEGER PRIMARY KEY, x INTEGER, y INTEGER, note TEXT)")
+    wanted = rows(puts)
+    begun = time.perf_counter()
+    for row in wanted:
+        # Without BEGIN each statement is a transaction of its own.
+        base.execute("INSERT OR REPLACE INTO rows VALUES (?, ?, ?, ?)", row)
+    seconds = time.perf_counter() - begun
+    if base.execute("SELECT count(*) FROM rows").fetchone() != (puts,):
+        sys.exit("SQLite lacks rows")
+    base.close()
+    return seconds / puts
+
+
+def measured(words, folder):
+    peer = build_c(folder, HERE / "bare.c")
+    file = folder / "store.dat"
+    return [
+        (
+            program_seconds(words.program, file, words.pages, words.puts),
+            bare_seconds(words.program, peer, file, words.pages, words.puts),
+            sqlite_seconds(folder, words.puts),
+        )
+        for _ in range(words.runs)
+    ]
+
+
+def place_of(folder):
+    lines = subprocess.run(["df", "--output=source,fstype,target", folder], capture_output=True, text=True, check=True).stdout.splitlines()
+    return dict(zip(("source", "kind", "target"), lines[1].split()))
+
+
+def ratio_line(name, ours, theirs, goal):
+    return f"spatial to {name}: ratio {ours / theirs:.2f} (goal {goal}){'' if ours <= goal * theirs else ' ABOVE THE GOAL'}"
+
+
+def main():
+    parser = words_of("Measures a durable put.")
+    parser.add_argument("--puts", type=int, default=500)
+    parser.add_argument("--runs", type=int, default=9)
+    words = read_words(parser)
+    place = place_of(words.folder)
+    if not 1 <= words.puts <= MOST_PUTS or words.runs < 1:
+        parser.error(f"PUTS is 1 to {MOST_PUTS}, and RUNS at least 1")
+    if place["kind"] in ("tmpfs", "ramfs"):
+        parser.error(f"{words.folder} is in memory, where a sync does nothing: name another FOLDER")
+    with tempfile.TemporaryDirectory(dir=words.folder) as name:
+        found = measured(words, Path(name))
+    print(f"{words.puts} puts, {words.runs} runs, files in {words.folder} on {place['source']}, {place['kind']} at {place['target']}")
+    ours, bare, sqlite = (statistics.median(column) for column in zip(*found))
+    for measure, seconds, column in zip(("spatial", "bare", "SQLite " + sqlite3.sqlite_version), (ours, bare, sqlite), zip(*found)):
+        print(f"{measure:14} {1e6 * seconds:8.1f} us a put (of the runs {1e6 * min(column):.1f} to {1e6 * max(column):.1f})")
+    print(ratio_line("bare", ours, bare, MOST_OVER_BARE))
+    print(ratio_line("SQLite", ours, sqlite, MOST_OVER_SQLITE))
+    sys.exit(0 if ours <= MOST_OVER_BARE * bare and ours <= MOST_OVER_SQLITE * sqlite else 1)
+
+
+main()
