@@ -142,7 +142,7 @@ def random_keys(random, number):
 def random_row(random):
     """Rows of two puts hardly ever agree, so that the table tells which put was the last."""
     x, y = (random.choice((0, MOST_COORDINATE, *[random.randrange(MOST_COORDINATE)] * 6)) for _ in range(2))
-    length = random.choice((0, 64, random.randrange(2, 64), random.randrange(2, 64)))
+    length = random.choice((0, 64, random.randrange(1, 64), random.randrange(1, 64)))
     return Row(x, y, "".join(random.choices(NOTE_BYTES, k=length)))
 
 
