@@ -138,29 +138,34 @@ def unlike_lines(printed, expected):
 
 
 class Pace:
-    """How long runs take, so that a moment of one can be chosen."""
+    """How many seconds a run takes, so that a moment of one can be chosen."""
 
     def __init__(self):
-        self.start = 0.02
-        self.a_command = {SERIAL: 0.002, FRESH: 0.002}
+        self.opening, self.formatting, self.a_command = 0.02, 0.02, 0.002
+
+    def before_commands(self, command):
+        return self.opening + (self.formatting if command == FRESH else 0)
 
     def moment(self, chance, command, commands):
-        """Anywhere in a run; every fourth time while the file is opened, which takes a short part of it."""
-        opening = 1.2 * self.start
-        whole = 1.05 * (self.start + self.a_command[command] * len(commands))
-        return chance.uniform(0, opening if chance.random() < 0.25 else whole)
+        """Anywhere in a run; every fourth time before its commands, which is a short part of it."""
+        before = self.before_commands(command)
+        whole = before + self.a_command * len(commands)
+        return chance.uniform(0, 1.2 * before if chance.random() < 0.25 else 1.05 * whole)
 
-    def learn_start(self, seconds):
-        self.start = (self.start + seconds) / 2
+    def learn_opening(self, seconds):
+        self.opening = (self.opening + seconds) / 2
 
     def learn(self, command, commands, seconds):
-        measured = max(0.0, seconds - self.start) / len(commands)
-        self.a_command[command] = (self.a_command[command] + measured) / 2
+        """A run with a format tells how long that takes, and one without it how long a command does."""
+        if command == FRESH:
+            self.formatting = (self.formatting + max(0.0, seconds - self.opening - self.a_command * len(commands))) / 2
+        else:
+            self.a_command = (self.a_command + max(0.0, seconds - self.opening) / len(commands)) / 2
 
 
 class Driver:
-    def __init__(self, program, chance):
-        self.program, self.chance = program, chance
+    def __init__(self, program, chance, kills):
+        self.program, self.chance, self.kills = program, chance, kills
         self.keys = random_keys(chance, KEYS)
         self.looks = [Count(), *map(Get, self.keys), WHOLE]
         self.state = State(None, 0, None)
@@ -180,7 +185,7 @@ class Driver:
         if self.chance.random() < 0.5:
             self.program.file.unlink(missing_ok=True)
             self.state = State(None, 0, None)
-        while self.chance.random() < 0.6:
+        while self.chance.random() < 0.75:
             self.kill(FRESH, self.script(10))
         self.run(FRESH, self.script(MOST_COMMANDS))
         self.tally["files"] += 1
@@ -189,7 +194,11 @@ class Driver:
         return random_commands(self.chance, self.keys, self.state.table or {}, self.chance.randrange(1, most + 1))
 
     def kill(self, command, commands):
-        self.run(command, commands, self.pace.moment(self.chance, command, commands))
+        if not self.is_done():
+            self.run(command, commands, self.pace.moment(self.chance, command, commands))
+
+    def is_done(self):
+        return self.tally["kills"] >= self.kills
 
     def run(self, command, commands, moment=None):
         """A run, and a look at what it left."""
@@ -217,7 +226,7 @@ class Driver:
         """The possible states that a reading run answers like, which has to leave the file as it was."""
         run, before = self.program.runs, self.program.bytes_left()
         seen = self.program.run(SERIAL, self.looks)
-        self.pace.learn_start(seen.seconds)
+        self.pace.learn_opening(seen.seconds)
         like = [state for state in possible if self.told_by(state) == seen.told()]
         fit = [state for state in like if least is None or (state.writes is not None and state.writes >= least)]
         if not fit or self.program.bytes_left() != before:
@@ -304,8 +313,8 @@ def two_at_once(program):
 
 def drive(program, chance, kills):
     two_at_once(program)
-    driver = Driver(program, chance)
-    while driver.tally["kills"] < kills:
+    driver = Driver(program, chance, kills)
+    while not driver.is_done():
         driver.round()
     tally = driver.tally
     if tally["amid"] < LEAST_AMID * tally["kills"]:
