@@ -3,8 +3,8 @@
 
     python3 bench/durable/compare.py [PROGRAM] [--puts N] [--runs N] [--pages N] [--folder FOLDER]
 
-PROGRAM is crates/spatial/out/spatial where none is named. In turns, RUNS times (9), each on a new file in FOLDER
-(bench/out/durable) and with PUTS puts (500):
+PROGRAM is crates/spatial/out/spatial where none is named. In turns, RUNS times (25), each on a new file in FOLDER
+(bench/out/durable) and with PUTS puts (200):
 
 - spatial: the time of `serial` with a script of the puts, without the time of one with an empty script.
 - bare: the same of bare.c, a loop over 96 bytes, a sync, 1 byte and a sync, on a file that was formatted in the same way.
@@ -102,8 +102,8 @@ def ratio_line(name, ours, theirs, goal):
 
 def main():
     parser = words_of("Measures a durable put.")
-    parser.add_argument("--puts", type=int, default=500)
-    parser.add_argument("--runs", type=int, default=9)
+    parser.add_argument("--puts", type=int, default=200)
+    parser.add_argument("--runs", type=int, default=25)
     words = read_words(parser)
     place = place_of(words.folder)
     if not 1 <= words.puts <= MOST_PUTS or words.runs < 1:
