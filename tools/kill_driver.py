@@ -147,10 +147,11 @@ class Pace:
         return self.opening + (self.formatting if command == FRESH else 0)
 
     def moment(self, chance, command, commands):
-        """Anywhere in a run; every fourth time before its commands, which is a short part of it."""
+        """Anywhere in a run; every fourth time before its commands, which is a short part of it, and mostly so in a format."""
         before = self.before_commands(command)
         whole = before + self.a_command * len(commands)
-        return chance.uniform(0, 1.2 * before if chance.random() < 0.25 else 1.05 * whole)
+        is_early = chance.random() < (0.75 if command == FRESH else 0.25)
+        return chance.uniform(0, 1.2 * before if is_early else 1.05 * whole)
 
     def learn_opening(self, seconds):
         self.opening = (self.opening + seconds) / 2
