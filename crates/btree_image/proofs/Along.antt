@@ -10,9 +10,9 @@ use Rattle.page_codec.specs.declared.faults.PageFault.{PageFault}
 use Rattle.page_codec.specs.declared.faults.PageFault.TheVariants.{Failed, Damaged, OutOfMemory}
 use Rattle.btree_image.specs.Rows.{Layout}
 use Rattle.btree_image.specs.Image.{IsShown}
-use Rattle.btree_image.specs.Damage.{IsDamaged}
+use Rattle.btree_image.specs.Damage.{IsDamaged, IsTested}
 use Rattle.tree_shape.specs.Asked.{given, given_but_last, EndsWith, GoesBy, Went}
-use Rattle.btree_image.specs.Walks.{reads_by, StopsOn, GoesAlong, OnDamaged, OnFailed, GoesOn, fault_of}
+use Rattle.btree_image.specs.Walks.{reads_by, StopsOn, GoesAlong, OnDamaged, OnFailed, OnGiven, GoesOn, fault_of}
 use Rattle.tree_shape.specs.Laws.Trail.{given-append}
 
 -- a count that rose later rose
@@ -36,6 +36,10 @@ on_failed None P Q f p = tt
 on_failed (Some Failed) P Q f p = f p
 on_failed (Some (Damaged page)) P Q f p = tt
 on_failed (Some OutOfMemory) P Q f p = tt
+
+on_given : (fault : Option PageFault) (P Q : Type 0) → (P → Q) → OnGiven fault P → OnGiven fault Q
+on_given None P Q f p = f p
+on_given (Some fault) P Q f p = tt
 
 but_last-append : (seen : List ℕ) (page : ℕ) (more : List ℕ) → given_but_last (seen ++ (page ∷ more)) ≡ given seen ++ given_but_last (page ∷ more)
 but_last-append [] page more = refl
@@ -86,6 +90,10 @@ module _ {T K S : Type 0} {l : Layout T K} {at rows : ℕ} {lent : S → ℕ →
     asked_for = subst (asked first third) (sym (reads-then fault next a.pages b.pages b.stops)) (onward first second third _ _ a.asked_for b.asked_for);
     are_lent = All-append (λ page. IsTrue (lent first page)) a.pages b.pages a.are_lent (subst (λ is_lent. All (λ page. IsTrue (is_lent page)) b.pages) a.same_lent b.are_lent);
     stops = stops-then fault hand a.pages before next b.pages (ap (λ xs. hand ++ xs) a.along ∙ e) b.stops;
+    tested = on_given fault (WhereTold (contents second) (λ bytes. All (λ page. IsTested l at rows bytes page) b.pages))
+        (WhereTold (contents first) (λ bytes. All (λ page. IsTested l at rows bytes page) (a.pages ++ b.pages)))
+        (λ more bytes told. All-append (λ page. IsTested l at rows bytes page) a.pages b.pages (a.tested bytes told) (more bytes (a.same_contents ∙ told)))
+        b.tested;
   }
 
   -- the same from no page in hand, over steps that need none
@@ -107,6 +115,7 @@ module _ {T K S : Type 0} {l : Layout T K} {at rows : ℕ} {lent : S → ℕ →
     asked_for = a.asked_for;
     are_lent = a.are_lent;
     stops = a.stops;
+    tested = tt;
   }
 
   pub goes-same : {first second : S} {fault : Option PageFault} {hand way whole : List ℕ} → way ≡ whole → GoesOn l at rows lent contents count asked first second fault hand way → GoesOn l at rows lent contents count asked first second fault hand whole
@@ -126,6 +135,7 @@ module _ {T K S : Type 0} {l : Layout T K} {at rows : ℕ} {lent : S → ℕ →
     asked_for = none;
     are_lent = λ i d h. absurd (omega arith);
     stops = tt;
+    tested = λ bytes told i d h. absurd (omega arith);
   }
 
   -- a page in hand does no harm
@@ -142,6 +152,7 @@ module _ {T K S : Type 0} {l : Layout T K} {at rows : ℕ} {lent : S → ℕ →
     asked_for = a.asked_for;
     are_lent = a.are_lent;
     stops = holding fault a.pages a.stops;
+    tested = a.tested;
   }
     where
       holding : (fault : Option PageFault) (pages : List ℕ) → StopsOn fault [] pages → StopsOn fault hand pages
@@ -164,6 +175,7 @@ module _ {T K S : Type 0} {l : Layout T K} {at rows : ℕ} {lent : S → ℕ →
     asked_for = a.asked_for;
     are_lent = a.are_lent;
     stops = tt;
+    tested = tt;
   }
 
   pub goes-damaged : {first second : S} (hand way : List ℕ) (page : ℕ) → GoesOn l at rows lent contents count asked first second None hand way → EndsWith (hand ++ way) page
@@ -181,12 +193,14 @@ module _ {T K S : Type 0} {l : Layout T K} {at rows : ℕ} {lent : S → ℕ →
     asked_for = a.asked_for;
     are_lent = a.are_lent;
     stops = subst (λ xs. EndsWith (hand ++ xs) page) (sym a.along) ends;
+    tested = tt;
   }
 
   -- one page
   pub goes-read : {first second : S} (page : ℕ) → lent second ≡ lent first → contents second ≡ contents first → count first ≤ count second
-      → asked first second ((page, true) ∷ []) → IsTrue (lent first page) → GoesOn l at rows lent contents count asked first second None [] (page ∷ [])
-  goes-read {first = first} page same_lent same_contents later so_far is_lent = record {
+      → asked first second ((page, true) ∷ []) → IsTrue (lent first page) → WhereTold (contents first) (λ bytes. IsTested l at rows bytes page)
+      → GoesOn l at rows lent contents count asked first second None [] (page ∷ [])
+  goes-read {first = first} page same_lent same_contents later so_far is_lent tested = record {
     same_lent = same_lent;
     same_contents = same_contents;
     later = later;
@@ -198,6 +212,27 @@ module _ {T K S : Type 0} {l : Layout T K} {at rows : ℕ} {lent : S → ℕ →
     asked_for = so_far;
     are_lent = All-cons (λ page. IsTrue (lent first page)) page [] is_lent (λ k d h. absurd (omega arith));
     stops = tt;
+    tested = λ bytes told. All-cons (λ page. IsTested l at rows bytes page) page [] (tested bytes told) (λ k d h. absurd (omega arith));
+  }
+
+  -- one page that is none for its place
+  pub goes-bad : {first second : S} (page number : ℕ) → page ≡ number → lent second ≡ lent first → contents second ≡ contents first → count first ≤ count second
+      → asked first second ((number, true) ∷ []) → IsTrue (lent first number)
+      → WhereTold (contents first) (λ bytes. IsDamaged l at rows bytes page) → ((list : List T) → IsShown l (contents first) at rows list → ⊥)
+      → GoesOn l at rows lent contents count asked first second (Some (Damaged page)) [] (number ∷ [])
+  goes-bad {first = first} page number same same_lent same_contents later so_far is_lent bad never = record {
+    same_lent = same_lent;
+    same_contents = same_contents;
+    later = later;
+    failed = tt;
+    damaged = bad;
+    sound = never;
+    pages = number ∷ [];
+    along = ([], refl);
+    asked_for = so_far;
+    are_lent = All-cons (λ page. IsTrue (lent first page)) number [] is_lent (λ k d h. absurd (omega arith));
+    stops = ([], ap (λ n. n ∷ []) (sym same));
+    tested = tt;
   }
 
   pub goes-failed : {first second : S} (page : ℕ) → lent second ≡ lent first → contents second ≡ contents first → count first ≤ count second
@@ -214,6 +249,7 @@ module _ {T K S : Type 0} {l : Layout T K} {at rows : ℕ} {lent : S → ℕ →
     asked_for = so_far;
     are_lent = All-cons (λ page. IsTrue (lent first page)) page [] is_lent (λ k d h. absurd (omega arith));
     stops = (page, ([], refl));
+    tested = tt;
   }
 
   -- a step that may be refused while rows of the page in hand are copied out

@@ -15,7 +15,7 @@ use Rattle.btree_image.specs.Rows.{Layout}
 use Rattle.btree_image.specs.Image.{shape_of, page_number, level_kind, IsShown}
 use Rattle.tree_shape.specs.Shape.{numbers}
 use Rattle.btree_image.specs.Descent.{rank, place_of_key}
-use Rattle.btree_image.specs.Damage.{IsDamaged}
+use Rattle.btree_image.specs.Damage.{IsDamaged, IsTested}
 use Rattle.tree_shape.specs.Asked.{given, given_but_last, EndsWith}
 
 -- the fault of an answer
@@ -51,6 +51,10 @@ abbrev pub OnFailed : Option PageFault → Type 0 → Type 0
 OnFailed (Some Failed) P = P
 OnFailed fault P = Unit {0}
 
+abbrev pub OnGiven : Option PageFault → Type 0 → Type 0
+OnGiven None P = P
+OnGiven (Some fault) P = Unit {0}
+
 -- How a reader of a tree went on along a way, from one state of the pages to a later one.
 pub record GoesOn {T K S : Type 0} (l : Layout T K) (at rows : ℕ) (lent : S → ℕ → Bool) (contents : S → Option (ℕ → List ℕ)) (count : S → ℕ)
     (asked : S → S → List (ℕ × Bool) → Type 0) (first second : S) (fault : Option PageFault) (hand way : List ℕ) : Type 0 where
@@ -65,6 +69,7 @@ pub record GoesOn {T K S : Type 0} (l : Layout T K) (at rows : ℕ) (lent : S �
   pub asked_for : asked first second (reads_by fault pages)
   pub are_lent : All (λ page. IsTrue (lent first page)) pages
   pub stops : StopsOn fault hand pages
+  pub tested : OnGiven fault (WhereTold (contents first) (λ bytes. All (λ page. IsTested l at rows bytes page) pages))
 
 -- the page in hand was read at a place of a level, and is a page of that level
 pub record IsInHand {T K : Type 0} (l : Layout T K) (first rows : ℕ) (contents : Option (ℕ → List ℕ)) (level at : ℕ) (hand : InHand) : Type 0 where

@@ -1,12 +1,12 @@
 //! A scan of ranges of keys, level by level, with one page in hand.
 
-ghost use Rattle.std.specs.Prelude.{◌≡◌, ◌≢◌, ℕ, suc, [], ◌++◌, ◌+◌, ◌<◌, ◌≤◌, List, length, replicate, AllPairs, OnOk, OnErr, IfErr, MatchResult, ◌⊎◌};
+ghost use Rattle.std.specs.Prelude.{◌≡◌, ◌≢◌, ℕ, suc, [], ◌++◌, ◌+◌, ◌<◌, ◌≤◌, List, length, replicate, All, AllPairs, OnOk, OnErr, IfErr, MatchResult, ◌⊎◌};
 ghost use Rattle.dev_model.specs.Counts.{Rose};
 ghost use Rattle.dev_model.specs.Story.{WhereTold};
 ghost use Rattle.page_codec.specs.declared.faults.PageFault.TheVariants.{Failed, Damaged, OutOfMemory};
 ghost use Rattle.tree_shape.specs.Shape.{IsRoot};
 ghost use Rattle.btree_image.specs.Image.{shape_of, IsShown, AreLent};
-ghost use Rattle.btree_image.specs.Damage.{IsDamaged};
+ghost use Rattle.btree_image.specs.Damage.{IsDamaged, IsTested};
 ghost use Rattle.tree_shape.specs.Asked.{Went, GoesBy};
 ghost use Rattle.btree_image.specs.Visited.{AreRanges, rows_met, visited_pages};
 ghost use Rattle.btree_image.specs.Walks.{GoesOn, GoesAlong, fault_of};
@@ -102,6 +102,7 @@ pub fn scan<T: TreeRow, P: Pages>(
     ensures rows { (list : List T) → IsShown T.layout (P.contents pages.old) tree.first tree.rows list → AreRanges T.layout.order ranges.now
         → MatchResult result (λ _. out.new.items ≡ out.old.items ++ rows_met T.layout list ranges.now) (λ fault. (fault ≡ Failed) ⊎ (fault ≡ OutOfMemory)) }
     ensures asked { (seen : List ℕ) × Went (P.lent pages.old) (P.asked pages.old pages.new) result seen × AllPairs (λ a b. a ≢ b) seen
+        × OnOk result (WhereTold (P.contents pages.old) (λ contents. All (IsTested T.layout tree.first tree.rows contents) seen))
         × ((list : List T) (root : ℕ) → IsShown T.layout (P.contents pages.old) tree.first tree.rows list → AreRanges T.layout.order ranges.now → IsRoot (shape_of T.layout tree.rows) root
         → GoesBy result seen (visited_pages T.layout list ranges.now tree.first root)) }
 {

@@ -18,5 +18,6 @@ returns-in-Err-clause-asked g c =
       goes.pages,
       went-along (g.P.Pages.lent c.args.pages.now) (g.P.Pages.asked c.args.pages.now c.scan_runs.new.pages) (Err c.in-Err.fault) goes.pages goes.asked_for goes.are_lent goes.stops,
       pairs-front (λ a b. a ≢ b) goes.pages goes.along.0 (subst (AllPairs (λ a b. a ≢ b)) (sym goes.along.1) way.2),
+      tt,
       λ list root shown ascend at_root. along-by {X = Unit {0}} (Err c.in-Err.fault) goes.pages way.0 _ goes.along (way.3 list root shown ascend at_root),
     )
