@@ -165,10 +165,10 @@ damaged_at first rows contents bytes buf level at page damaged told read place n
     }
 
 -- what was read for a place is a page for it
-pub tested_at : (rect : Corners) (first rows : ℕ) (contents : Option (ℕ → List ℕ)) (buf : List ℕ) (level at : ℕ)
+pub tested_at : (first rows : ℕ) (rect : Corners) (contents : Option (ℕ → List ℕ)) (buf : List ℕ) (level at : ℕ)
     → WhereTold contents (λ bytes. buf ≡ bytes (page_number (tree_of rows) first level at)) → IsPlace (tree_of rows) level at
     → IsTreePageFor (tree_of rows) rect level at buf → WhereTold contents (λ bytes. IsTestedFor rect first rows bytes (page_number (tree_of rows) first level at))
-tested_at rect first rows contents buf level at read place good bytes told = record {
+tested_at first rows rect contents buf level at read place good = λ bytes told. record {
   level = level;
   at = at;
   place = place;

@@ -33,4 +33,4 @@ returns-in-Err-Damaged-clause-told g c list shown page e =
 
 pub returns-in-Ok-add_children-clause-tested : goal.returns-in-Ok-add_children-clause-tested
 returns-in-Ok-add_children-clause-tested g c =
-    tested_at c.args.rect.now c.args.tree.first c.args.tree.rows _ c.read_place.new.buf (suc c.args.below) c.args.at (rw add-one at c.in-Ok.ensures.bytes) c.requires.place c.in-Ok-add_children.ensures.tested
+    tested_at c.args.tree.first c.args.tree.rows c.args.rect.now _ c.read_place.new.buf (suc c.args.below) c.args.at (rw add-one at c.in-Ok.ensures.bytes) c.requires.place c.in-Ok-add_children.ensures.tested
