@@ -1,7 +1,9 @@
 -- What a search asked for, one level further.
-use Rattle.std.proofs.Common.{◌≡◌, ℕ, suc, List, [], ◌++◌, map, arith, sym, ◌∙◌, ap, subst, append_assoc, append-nil}
-use Rattle.std.specs.Prelude.{Result, Ok, Err, MatchResult}
+use Rattle.std.proofs.Common.{◌≡◌, ℕ, suc, List, [], ◌++◌, map, All, Option, arith, sym, ◌∙◌, ap, subst, append_assoc, append-nil}
+use Rattle.std.specs.Prelude.{Result, Ok, Err, MatchResult, OnOk}
 use Rattle.std.proofs.lemmas.List.{map-append}
+use Rattle.std.proofs.lemmas.List.Elements.{All-append}
+use Rattle.dev_model.specs.Story.{WhereTold}
 use Rattle.page_codec.specs.declared.faults.PageFault.{PageFault}
 use Rattle.geo_base.specs.Corners.{Corners}
 use Rattle.tree_shape.specs.declared.levels.Shape.{Shape}
@@ -64,3 +66,11 @@ module _ (s : Shape) (list : List RtRow) (rect : Corners) (first top : ℕ) (see
 pub match-ok : {X : Type 0} (result : Result X PageFault) (P Q : Type 0) (R : PageFault → Type 0) → MatchResult result (λ x. P) R → (P → Q) → MatchResult result (λ x. Q) R
 match-ok (Ok x) P Q R p f = f p
 match-ok (Err fault) P Q R p f = p
+
+-- and the last level was tested too
+pub tested-last : {X : Type 0} (result : Result X PageFault) (contents now : Option (ℕ → List ℕ)) → now ≡ contents → (P : (ℕ → List ℕ) → ℕ → Type 0) (number : ℕ → ℕ)
+    (seen these places : List ℕ) → GoesBy result these places → WhereTold contents (λ bytes. All (P bytes) seen)
+    → OnOk result (WhereTold now (λ bytes. All (P bytes) (map number places))) → OnOk result (WhereTold contents (λ bytes. All (P bytes) (seen ++ map number these)))
+tested-last (Ok x) contents now same P number seen these places goes so_far last = λ bytes told.
+    All-append (P bytes) seen (map number these) (so_far bytes told) (subst (λ ps. All (P bytes) (map number ps)) (sym goes) (last bytes (same ∙ told)))
+tested-last (Err fault) contents now same P number seen these places goes so_far last = tt

@@ -1,8 +1,8 @@
 -- Lists of what passes a test, one more at a time.
-use Rattle.std.proofs.Common.{◌≡◌, ℕ, ◌+◌, ◌-◌, ◌<◌, Bool, List, [], ◌∷◌, ◌++◌, take, map, length, get_or, arith, refl, sym, ◌∙◌, ap, append_assoc, append-nil, inl, inr}
+use Rattle.std.proofs.Common.{◌≡◌, ℕ, ◌+◌, ◌-◌, ◌<◌, Bool, List, [], ◌∷◌, ◌++◌, take, map, length, get_or, arith, refl, sym, ◌∙◌, ap, subst, append_assoc, append-nil, inl, inr}
 use Rattle.std.specs.Prelude.{if◌then◌else◌}
 use Rattle.std.specs.List.{filter, flat_map}
-use Rattle.std.proofs.lemmas.Bool.{cases_Bool}
+use Rattle.std.proofs.lemmas.Bool.{cases_Bool, cases_lt}
 use Rattle.std.proofs.lemmas.List.{take_more, map-append}
 use Rattle.std.proofs.lemmas.List.Concat.{flat_map-append}
 use Rattle.std.proofs.Math.Numerals.{add-one}
@@ -48,3 +48,10 @@ pub flat-more : {X : Type 0} (f : ℕ → List X) (places : List ℕ) (i d : ℕ
 flat-more f places i d inside =
     ap (flat_map f) (take_more places i d inside)
     ∙ (flat_map-append f (take i places) (get_or places i d ∷ []) ∙ ap (λ ys. flat_map f (take i places) ++ ys) (append-nil (f (get_or places i d))))
+
+-- what holds below a number, and at it
+pub below-more : (P : ℕ → Type 0) (i : ℕ) → ((k : ℕ) → k < i → P k) → P i → (k : ℕ) → k < i + 1 → P k
+below-more P i so_far here k h = elim (cases_lt k i) [
+  | inl less ↦ so_far k less
+  | inr more ↦ (let e : i ≡ k = omega arith in subst P e here)
+]

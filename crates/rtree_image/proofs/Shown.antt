@@ -24,7 +24,7 @@ use Rattle.rtree_image.specs.Rows.{row_bytes, row_of, IsStored}
 use Rattle.rtree_image.specs.Bounds.{bounding, bounds_bytes, bounds_in, meets}
 use Rattle.rtree_image.specs.Image.{tree_of, rows_below, child_row, level_rows, level_kind, IsShown, page_number}
 use Rattle.rtree_image.specs.Visits.{is_met}
-use Rattle.rtree_image.specs.Damage.{IsInnerPage, IsTreePage, IsDamaged}
+use Rattle.rtree_image.specs.Damage.{IsInnerPage, IsTreePage, IsDamaged, IsTreePageFor, IsTestedFor}
 use Rattle.rtree_image.specs.Steps.{children_met}
 
 -- bounds whose numbers fit their bytes
@@ -163,3 +163,15 @@ damaged_at first rows contents bytes buf level at page damaged told read place n
       number = sym same ∙ number;
       bad = λ well. bad (subst (IsTreePage (tree_of rows) level at) (sym (read bytes told ∙ ap bytes (sym number ∙ same))) well);
     }
+
+-- what was read for a place is a page for it
+pub tested_at : (first rows : ℕ) (rect : Corners) (contents : Option (ℕ → List ℕ)) (buf : List ℕ) (level at : ℕ)
+    → WhereTold contents (λ bytes. buf ≡ bytes (page_number (tree_of rows) first level at)) → IsPlace (tree_of rows) level at
+    → IsTreePageFor (tree_of rows) rect level at buf → WhereTold contents (λ bytes. IsTestedFor rect first rows bytes (page_number (tree_of rows) first level at))
+tested_at first rows rect contents buf level at read place good = λ bytes told. record {
+  level = level;
+  at = at;
+  place = place;
+  number = refl;
+  good = subst (IsTreePageFor (tree_of rows) rect level at) (read bytes told) good;
+}

@@ -2,7 +2,7 @@
 use Rattle.std.proofs.Common.{◌≡◌, ℕ, ◌+◌, ◌<◌, ◌≤◌, Bool, List, [], ◌∷◌, ◌++◌, take, drop, map, length, get_or, All, refl, sym, ◌∙◌, ap, subst, append-nil}
 use Rattle.std.specs.Prelude.{Result, Ok, Err, IsTrue}
 use Rattle.std.proofs.lemmas.List.{take_more, map-append, take-append-drop}
-use Rattle.std.proofs.lemmas.List.Elements.{All-append}
+use Rattle.std.proofs.lemmas.List.Elements.{All-append, All-cons, All-nil}
 use Rattle.page_codec.specs.declared.faults.PageFault.{PageFault}
 use Rattle.page_codec.specs.declared.faults.PageFault.TheVariants.{Failed, Damaged, OutOfMemory}
 use Rattle.tree_shape.specs.Asked.{given, GoesBy, Went}
@@ -18,6 +18,15 @@ pub record Given (lent : ℕ → Bool) (asked : List (ℕ × Bool) → Type 0) (
 not_empty : {T : Type 0} (before : List T) (x : T) → [] ≡ before ++ x ∷ [] → ⊥
 not_empty [] x e = cc
 not_empty (y ∷ before) x e = cc
+
+module _ (number : ℕ → ℕ) (places : List ℕ) (i d : ℕ) (inside : i < length places) where
+  one_more_page : map number (take (i + 1) places) ≡ map number (take i places) ++ number (get_or places i d) ∷ []
+  one_more_page = ap (map number) (take_more places i d inside) ∙ map-append number (take i places) (get_or places i d ∷ [])
+
+  -- what holds of the pages so far, and of one more
+  pub level-tested : (P : ℕ → Type 0) → All P (map number (take i places)) → P (number (get_or places i d)) → All P (map number (take (i + 1) places))
+  level-tested P so_far here =
+      subst (All P) (sym one_more_page) (All-append P (map number (take i places)) (number (get_or places i d) ∷ []) so_far (All-cons P (number (get_or places i d)) [] here (All-nil P)))
 
 module _ {S : Type 0} (asked : S → S → List (ℕ × Bool) → Type 0)
     (then : (first second third : S) (xs ys : List (ℕ × Bool)) → asked first second xs → asked second third ys → asked first third (xs ++ ys))
@@ -52,21 +61,18 @@ module _ {S : Type 0} (asked : S → S → List (ℕ × Bool) → Type 0)
       went-more first second third result seen more so_far (subst (λ lent. Went lent (asked second third) result more) same there)
 
   module _ (number : ℕ → ℕ) (places : List ℕ) (i d : ℕ) (inside : i < length places) where
-    one_more_page : map number (take (i + 1) places) ≡ map number (take i places) ++ number (get_or places i d) ∷ []
-    one_more_page = ap (map number) (take_more places i d inside) ∙ map-append number (take i places) (get_or places i d ∷ [])
-
     -- one page more of a level
     pub level-more : {X : Type 0} (first second third : S) (x : X) → Given lent (asked first second) (map number (take i places)) → (now : ℕ → Bool) → now ≡ lent
         → Went now (asked second third) (Ok x) (number (get_or places i d) ∷ []) → Given lent (asked first third) (map number (take (i + 1) places))
     level-more first second third x so_far now same there =
-        subst (Given lent (asked first third)) (sym one_more_page) (given-more first second third x (map number (take i places)) (number (get_or places i d) ∷ []) so_far now same there)
+        subst (Given lent (asked first third)) (sym (one_more_page number places i d inside)) (given-more first second third x (map number (take i places)) (number (get_or places i d) ∷ []) so_far now same there)
 
     -- and the one at which it ends
     pub level-stops : {X : Type 0} (first second third : S) (fault : PageFault) → Given lent (asked first second) (map number (take i places)) → (now : ℕ → Bool) → now ≡ lent
         → Went {X = X} now (asked second third) (Err fault) (number (get_or places i d) ∷ []) → WentAmong {X = X} lent (asked first third) (Err fault) number places
     level-stops first second third fault so_far now same there = (
       take (i + 1) places,
-      subst (Went lent (asked first third) (Err fault)) (sym one_more_page)
+      subst (Went lent (asked first third) (Err fault)) (sym (one_more_page number places i d inside))
           (went-behind first second third (Err fault) (map number (take i places)) (number (get_or places i d) ∷ []) so_far now same there),
       (drop (i + 1) places, take-append-drop (i + 1) places),
     )

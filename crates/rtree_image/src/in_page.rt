@@ -1,6 +1,6 @@
 //! What a search takes from one page.
 
-ghost use Rattle.std.specs.Prelude.{◌≡◌, ◌≢◌, ℕ, suc, [], ◌∷◌, ◌+◌, ◌*◌, ◌^◌, ◌<◌, ◌≤◌, ◌++◌, ◌-◌, List, length, slice_index_or, drop, map, if◌then◌else◌, IfErr, OnOk, OnErr};
+ghost use Rattle.std.specs.Prelude.{◌≡◌, ◌≢◌, ℕ, suc, [], ◌∷◌, ◌+◌, ◌*◌, ◌^◌, ◌<◌, ◌≤◌, ◌++◌, ◌-◌, List, length, slice_index_or, drop, map, if◌then◌else◌, IsTrue, IfErr, OnOk, OnErr};
 ghost use Rattle.std.specs.List.{filter};
 ghost use Rattle.std.specs.Int.{from_be_bytes, w32};
 ghost use Rattle.page_codec.specs.Page.{row_count, rows_on, kind_of, most_rows};
@@ -12,7 +12,7 @@ ghost use Rattle.rtree_image.specs.Rows.{row_of};
 ghost use Rattle.rtree_image.specs.Bounds.{bounds_in, meets};
 ghost use Rattle.rtree_image.specs.Image.{tree_of};
 ghost use Rattle.rtree_image.specs.Visits.{is_inside};
-ghost use Rattle.rtree_image.specs.Damage.{IsInnerPage};
+ghost use Rattle.rtree_image.specs.Damage.{IsInnerPage, IsInnerPageFor};
 
 use crate::bounds::{Bounds, meets};
 use crate::levels::{level_at, per_inner};
@@ -114,6 +114,8 @@ fn add_child(
     requires in_rows { i < row_count page.now }
     ensures place { OnOk result (places.new.items
         ≡ places.old.items ++ (if meets (bounds_in (slice_index_or (rows_on page.now) i [])) rect.now then place ∷ [] else [])) }
+    ensures tested { OnOk result (IsTrue (meets (bounds_in (slice_index_or (rows_on page.now) i [])) rect.now)
+        → from_be_bytes w32 (drop 8 (slice_index_or (rows_on page.now) i [])) ≡ child) }
     ensures bad { IfErr result (λ e. e ≡ Damaged → from_be_bytes w32 (drop 8 (slice_index_or (rows_on page.now) i [])) ≢ child) }
 {
     if !meets_at(page, i, rect) {
@@ -143,6 +145,7 @@ pub(crate) fn add_children(
         ++ filter (λ child. meets (bounds_in (slice_index_or (rows_on page.now) (child - at * 340) [])) rect.now) (numbers (at * 340) (row_count page.now))) }
     ensures few { OnOk result (row_count page.now ≤ 340) }
     ensures inside { OnOk result (at * 340 + row_count page.now ≤ level_size (tree_of rows) below) }
+    ensures tested { OnOk result (IsInnerPageFor (tree_of rows) rect.now below at page.now) }
     ensures bad { IfErr result (λ e. e ≡ Damaged → IsInnerPage (tree_of rows) below at page.now → ⊥) }
 {
     let count = match open_page(page, RTREE_INNER, below + 1) {

@@ -1,6 +1,6 @@
 //! A search for the rows in a rectangle: level by level from the root, with one page in hand.
 
-ghost use Rattle.std.specs.Prelude.{◌≡◌, ◌≢◌, ℕ, suc, [], ◌∷◌, ◌++◌, ◌+◌, ◌*◌, ◌^◌, ◌<◌, ◌≤◌, List, length, min, is_ok, OnOk, OnErr, IfOk, IfErr, MatchResult, AllPairs};
+ghost use Rattle.std.specs.Prelude.{◌≡◌, ◌≢◌, ℕ, suc, [], ◌∷◌, ◌++◌, ◌+◌, ◌*◌, ◌^◌, ◌<◌, ◌≤◌, List, length, map, min, is_ok, All, OnOk, OnErr, IfOk, IfErr, MatchResult, AllPairs};
 ghost use Rattle.std.specs.List.{flat_map};
 ghost use Rattle.dev_model.specs.Counts.{Rose, HasCause};
 ghost use Rattle.dev_model.specs.Story.{WhereTold};
@@ -11,7 +11,7 @@ ghost use Rattle.rtree_image.specs.declared.rows.RtRow.{RtRow};
 ghost use Rattle.rtree_image.specs.Image.{tree_of, rows_below, IsShown, page_number, AreLent};
 ghost use Rattle.rtree_image.specs.Visits.{rows_inside, visited_pages};
 ghost use Rattle.rtree_image.specs.Steps.{AscendWithin, AddsWithin, WentAmong, children_met};
-ghost use Rattle.rtree_image.specs.Damage.{IsDamaged};
+ghost use Rattle.rtree_image.specs.Damage.{IsDamaged, IsTestedFor};
 
 use crate::in_page::{Unusable, add_children, add_rows};
 use crate::levels::{level_at, root_level};
@@ -64,6 +64,7 @@ fn visit<P: Pages>(
     ensures failed { IfErr result (λ fault. fault ≡ Failed → Rose (P.fault_count pages.old) (P.fault_count pages.new)) }
     ensures went { Went (P.lent pages.old) (P.asked pages.old pages.new) result (page_number (tree_of tree.rows) tree.first (suc below) at ∷ []) }
     ensures damaged { WhereTold (P.contents pages.old) (λ contents. IfErr result (λ fault. (page : ℕ) → fault ≡ Damaged page → IsDamaged tree.first tree.rows contents page)) }
+    ensures tested { OnOk result (WhereTold (P.contents pages.old) (λ contents. IsTestedFor rect.now tree.first tree.rows contents (page_number (tree_of tree.rows) tree.first (suc below) at))) }
     ensures ascends { OnOk result (AddsWithin (at * 340) (min (suc at * 340) (level_size (tree_of tree.rows) below)) next.old.items next.new.items) }
     ensures told { (list : List RtRow) → IsShown (P.contents pages.old) tree.first tree.rows list
         → MatchResult result (λ _. next.new.items ≡ next.old.items ++ children_met (tree_of tree.rows) list rect.now below at) (λ fault. (page : ℕ) → fault ≢ Damaged page) }
@@ -96,6 +97,7 @@ fn visit_leaf<P: Pages>(
     ensures failed { IfErr result (λ fault. fault ≡ Failed → Rose (P.fault_count pages.old) (P.fault_count pages.new)) }
     ensures went { Went (P.lent pages.old) (P.asked pages.old pages.new) result (page_number (tree_of tree.rows) tree.first 0 at ∷ []) }
     ensures damaged { WhereTold (P.contents pages.old) (λ contents. IfErr result (λ fault. (page : ℕ) → fault ≡ Damaged page → IsDamaged tree.first tree.rows contents page)) }
+    ensures tested { OnOk result (WhereTold (P.contents pages.old) (λ contents. IsTestedFor rect.now tree.first tree.rows contents (page_number (tree_of tree.rows) tree.first 0 at))) }
     ensures keeps { (more : List RtRow) × (out.new.items ≡ out.old.items ++ more) }
     ensures told { (list : List RtRow) → IsShown (P.contents pages.old) tree.first tree.rows list
         → MatchResult result (λ _. out.new.items ≡ out.old.items ++ rows_inside rect.now (rows_below (tree_of tree.rows) list 0 at)) (λ fault. (page : ℕ) → fault ≢ Damaged page) }
@@ -134,6 +136,7 @@ fn visit_level<P: Pages>(
     ensures failed { IfErr result (λ fault. fault ≡ Failed → Rose (P.fault_count pages.old) (P.fault_count pages.new)) }
     ensures went { WentAmong (P.lent pages.old) (P.asked pages.old pages.new) result (page_number (tree_of tree.rows) tree.first (suc below)) places.now }
     ensures damaged { WhereTold (P.contents pages.old) (λ contents. IfErr result (λ fault. (page : ℕ) → fault ≡ Damaged page → IsDamaged tree.first tree.rows contents page)) }
+    ensures tested { OnOk result (WhereTold (P.contents pages.old) (λ contents. All (IsTestedFor rect.now tree.first tree.rows contents) (map (page_number (tree_of tree.rows) tree.first (suc below)) places.now))) }
     ensures ascends { OnOk result (AscendWithin 0 (level_size (tree_of tree.rows) below) next.new.items) }
     ensures told { (list : List RtRow) → IsShown (P.contents pages.old) tree.first tree.rows list
         → MatchResult result (λ _. next.new.items ≡ flat_map (children_met (tree_of tree.rows) list rect.now below) places.now) (λ fault. (page : ℕ) → fault ≢ Damaged page) }
@@ -163,6 +166,7 @@ fn visit_leaves<P: Pages>(
     ensures failed { IfErr result (λ fault. fault ≡ Failed → Rose (P.fault_count pages.old) (P.fault_count pages.new)) }
     ensures went { WentAmong (P.lent pages.old) (P.asked pages.old pages.new) result (page_number (tree_of tree.rows) tree.first 0) places.now }
     ensures damaged { WhereTold (P.contents pages.old) (λ contents. IfErr result (λ fault. (page : ℕ) → fault ≡ Damaged page → IsDamaged tree.first tree.rows contents page)) }
+    ensures tested { OnOk result (WhereTold (P.contents pages.old) (λ contents. All (IsTestedFor rect.now tree.first tree.rows contents) (map (page_number (tree_of tree.rows) tree.first 0) places.now))) }
     ensures keeps { (more : List RtRow) × (out.new.items ≡ out.old.items ++ more) }
     ensures told { (list : List RtRow) → IsShown (P.contents pages.old) tree.first tree.rows list
         → MatchResult result (λ _. out.new.items ≡ out.old.items ++ flat_map (λ at. rows_inside rect.now (rows_below (tree_of tree.rows) list 0 at)) places.now) (λ fault. (page : ℕ) → fault ≢ Damaged page) }
@@ -193,7 +197,8 @@ fn add_found<P: Pages>(
         → MatchResult result (λ _. out.new.items ≡ out.old.items ++ rows_inside rect.now list) (λ fault. (page : ℕ) → fault ≢ Damaged page) }
     ensures asked { (seen : List ℕ) × Went (P.lent pages.old) (P.asked pages.old pages.new) result seen × AllPairs (λ a b. a ≢ b) seen
         × ((list : List RtRow) (root : ℕ) → IsShown (P.contents pages.old) tree.first tree.rows list → IsRoot (tree_of tree.rows) root
-        → GoesBy result seen (visited_pages (tree_of tree.rows) list rect.now tree.first root)) }
+        → GoesBy result seen (visited_pages (tree_of tree.rows) list rect.now tree.first root))
+        × OnOk result (WhereTold (P.contents pages.old) (λ contents. All (IsTestedFor rect.now tree.first tree.rows contents) seen)) }
 {
     let alloc = *out.allocator();
     let mut buf = [0; PAGE_BYTES];
@@ -224,9 +229,13 @@ fn add_found<P: Pages>(
 /// Appends the rows of a tree that lie in the rectangle, edges included, in the order of its list.
 ///
 /// `Failed` where a page is not given, `Damaged` where the page that was read last is none for its place, and
-/// `OutOfMemory` where there is no memory for what was found. After each of them `out` is as before. A page's header is
-/// tested, and of its rows what the search uses. Each page is asked for once at most, level by level from the root, in each
-/// level by its number: the root, and each page below it whose bounds the rectangle meets.
+/// `OutOfMemory` where there is no memory for what was found. After each of them `out` is as before. Each page is asked for
+/// once at most, level by level from the root, in each level by its number: the root, and each page below it whose bounds the
+/// rectangle meets.
+///
+/// Where the answer is `Ok`, all that was used was tested, whatever the bytes are: each page that was asked for has a header of
+/// its kind and level; above the leaves it has a row at least, and no more than pages are left in the level below; and each of
+/// its rows whose bounds meet the rectangle leads to the child of its place. The other rows' children are not looked at.
 pub fn search<P: Pages>(
     pages: &mut P,
     tree: TreeRef,
@@ -245,7 +254,8 @@ pub fn search<P: Pages>(
         → MatchResult result (λ _. out.new.items ≡ out.old.items ++ rows_inside rect.now list) (λ fault. (page : ℕ) → fault ≢ Damaged page) }
     ensures asked { (seen : List ℕ) × Went (P.lent pages.old) (P.asked pages.old pages.new) result seen × AllPairs (λ a b. a ≢ b) seen
         × ((list : List RtRow) (root : ℕ) → IsShown (P.contents pages.old) tree.first tree.rows list → IsRoot (tree_of tree.rows) root
-        → GoesBy result seen (visited_pages (tree_of tree.rows) list rect.now tree.first root)) }
+        → GoesBy result seen (visited_pages (tree_of tree.rows) list rect.now tree.first root))
+        × OnOk result (WhereTold (P.contents pages.old) (λ contents. All (IsTestedFor rect.now tree.first tree.rows contents) seen)) }
 {
     let kept = out.len();
     match add_found::<P>(pages, tree, rect, out) {

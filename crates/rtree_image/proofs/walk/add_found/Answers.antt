@@ -2,6 +2,7 @@ use Rattle.std.proofs.Common.{rules, ◌≡◌, ℕ, suc, ◌-◌, ◌<◌, [], 
 use Rattle.std.specs.Prelude.{Ok, Err, nat_lt}
 use Rattle.std.specs.List.{flat_map}
 use Rattle.std.proofs.lemmas.Bool.{false_from_ne_true, ltb-true}
+use Rattle.std.proofs.lemmas.List.Elements.{All-append, All-nil}
 use Rattle.geo_base.specs.Corners.{Corners}
 use Rattle.tree_shape.specs.declared.levels.Shape.{Shape}
 use Rattle.tree_shape.specs.Shape.{level_size}
@@ -10,9 +11,10 @@ use Rattle.tree_shape.specs.Laws.Places.{root_unique}
 use Rattle.rtree_image.specs.declared.rows.RtRow.{RtRow}
 use Rattle.rtree_image.specs.Image.{tree_of, rows_below, IsShown, page_number}
 use Rattle.rtree_image.specs.Visits.{rows_inside, visited_at, visited_from, visited_pages}
+use Rattle.rtree_image.specs.Damage.{IsTestedFor}
 use Rattle.rtree_image.specs.Steps.{AscendWithin, children_met}
 use Rattle.rtree_image.proofs.Ascending.{Above, once-none, above-none, pairs-once, within-one}
-use Rattle.rtree_image.proofs.Downward.{goes-short, goes-last, level-once, level-above, way-next, way-last, match-ok}
+use Rattle.rtree_image.proofs.Downward.{goes-short, goes-last, level-once, level-above, way-next, way-last, match-ok, tested-last}
 use Rattle.rtree_image.proofs.Pruned.{next_places, found_rows}
 use Rattle.rtree_image.proofs.Walked.{Given, given-more, went-behind}
 use Rattle.rtree_image.proofs.walk.add_found.Goals as goal
@@ -34,6 +36,7 @@ loop-level-init g c =
       places = subst (λ size. AscendWithin 0 size c.push.new.self.items) (sym root.alone) (subst (AscendWithin 0 1) (sym one) within-one);
       seen = [];
       so_far = record { asked_for = g.met.P.Pages.asked_none c.args.pages.now; are_lent = λ i d h. absurd (omega arith) };
+      tested = λ contents told. All-nil _;
       once = once-none;
       above = above-none _;
       told = λ list shown. one ∙ sym (at_the_root s list c.args.rect.now c.root_level-level.result);
@@ -75,6 +78,7 @@ returns-in-Err-clause-asked g c =
           subst (λ root. GoesBy {X = Unit {0}} (Err c.in-Err.fault) (inv.seen ++ map number went.0) (visited_pages s list c.args.rect.now first root)) same
           (goes-short number inv.seen went.0 places (visited_pages s list c.args.rect.now first inv.top) (Unit {0}) c.in-Err.fault (visited_from s list c.args.rect.now first inv.top below) went.2
           (way-next s list c.args.rect.now first inv.top inv.seen places (visited_pages s list c.args.rect.now first inv.top) below told way)),
+      tt,
     )
 
 pub loop-level-preserved : goal.loop-level-preserved
@@ -106,6 +110,8 @@ loop-level-preserved g c =
       places = c.in_default.ensures.ascends;
       seen = inv.seen ++ map number places;
       so_far = subst (λ ps. Given (g.P.Pages.lent c.args.pages.now) (g.P.Pages.asked c.args.pages.now c.visit_level.new.pages) (inv.seen ++ map number ps)) all given;
+      tested = λ contents told.
+          All-append (IsTestedFor rect first c.args.tree.rows contents) inv.seen (map number places) (inv.tested contents told) (c.in_default.ensures.tested contents (inv.same_contents ∙ told));
       once = level-once s first (suc below) inv.seen places places inv.once top ascends {X = Unit {0}} (Ok tt) refl;
       above = level-above s first below inv.seen places top ascends;
       told = λ list shown.
@@ -160,4 +166,5 @@ returns-clause-asked g c =
           subst (λ root. GoesBy c.visit_leaves.result (inv.seen ++ map number went.0) (visited_pages s list rect first root)) same
           (goes-last number inv.seen went.0 places (visited_pages s list rect first inv.top) c.visit_leaves.result went.2
           (way-last s list rect first inv.top inv.seen places (visited_pages s list rect first inv.top) told way)),
+      tested-last c.visit_leaves.result (g.P.Pages.contents c.args.pages.now) _ inv.same_contents (IsTestedFor rect first c.args.tree.rows) number inv.seen went.0 places went.2 inv.tested c.visit_leaves.ensures.tested,
     )

@@ -1,8 +1,10 @@
-use Rattle.std.proofs.Common.{◌≡◌, ℕ, ◌<◌, ◌≤◌, List, ◌++◌}
+use Rattle.std.proofs.Common.{◌≡◌, ℕ, ◌<◌, ◌≤◌, List, ◌++◌, All}
+use Rattle.dev_model.specs.Story.{WhereTold}
 use Rattle.tree_shape.specs.Shape.{level_size, IsRoot}
 use Rattle.rtree_image.specs.declared.rows.RtRow.{RtRow}
 use Rattle.rtree_image.specs.Image.{tree_of, IsShown, page_number}
 use Rattle.rtree_image.specs.Visits.{visited_at, visited_from, visited_pages}
+use Rattle.rtree_image.specs.Damage.{IsTestedFor}
 use Rattle.rtree_image.specs.Steps.{AscendWithin}
 use Rattle.rtree_image.proofs.Ascending.{Once, Above}
 use Rattle.rtree_image.proofs.Walked.{Given}
@@ -21,6 +23,7 @@ invariant-loop-level g l = record {
   places : AscendWithin 0 (level_size (tree_of l.fn.tree.rows) l.level) l.places.items;
   seen : List ℕ;
   so_far : Given (g.P.Pages.lent l.initial.pages) (g.P.Pages.asked l.initial.pages l.pages) seen;
+  tested : WhereTold (g.P.Pages.contents l.initial.pages) (λ contents. All (IsTestedFor l.fn.rect l.fn.tree.first l.fn.tree.rows contents) seen);
   once : Once seen;
   above : Above (page_number (tree_of l.fn.tree.rows) l.fn.tree.first l.level (level_size (tree_of l.fn.tree.rows) l.level)) seen;
   told : (list : List RtRow) → IsShown (g.P.Pages.contents l.initial.pages) l.fn.tree.first l.fn.tree.rows list

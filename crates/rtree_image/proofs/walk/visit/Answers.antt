@@ -4,7 +4,7 @@ use Rattle.tree_shape.specs.Laws.Places.{number_fits, place_below}
 use Rattle.tree_shape.specs.Laws.Trail.{went-failed}
 use Rattle.rtree_image.specs.Image.{tree_of}
 use Rattle.rtree_image.proofs.Ascending.{within-filter, within-higher}
-use Rattle.rtree_image.proofs.Shown.{children_told, inner_sound, shown_read}
+use Rattle.rtree_image.proofs.Shown.{children_told, inner_sound, shown_read, tested_at}
 use Rattle.rtree_image.proofs.walk.visit.Goals as goal
 
 pub returns-in-Err-clause-went : goal.returns-in-Err-clause-went
@@ -30,3 +30,7 @@ returns-in-Err-Damaged-clause-told g c list shown page e =
     let fits : (at : ℕ) → at < _ → _ = λ at inside. (
     let n = number_fits s (lit≤ tt) (lit≤ tt) (omega arith) c.args.below at (place_below s c.args.below c.args.at at c.requires.place inside) in omega arith) in
     c.in-Err-Damaged.ensures.bad c.in-Err-Damaged.field-0-is (inner_sound s (lit≤ tt) list shown.stored c.args.below c.args.at c.requires.place.inside c.read_place.new.buf shows fits)
+
+pub returns-in-Ok-add_children-clause-tested : goal.returns-in-Ok-add_children-clause-tested
+returns-in-Ok-add_children-clause-tested g c =
+    tested_at c.args.tree.first c.args.tree.rows c.args.rect.now _ c.read_place.new.buf (suc c.args.below) c.args.at (rw add-one at c.in-Ok.ensures.bytes) c.requires.place c.in-Ok-add_children.ensures.tested

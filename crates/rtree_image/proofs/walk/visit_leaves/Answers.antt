@@ -1,11 +1,12 @@
-use Rattle.std.proofs.Common.{suc, ◌++◌, take, get_or, arith, sym, ◌∙◌, ap, subst, append_assoc}
+use Rattle.std.proofs.Common.{suc, ◌++◌, take, map, get_or, All, arith, sym, ◌∙◌, ap, subst, append_assoc}
 use Rattle.std.specs.List.{flat_map}
 use Rattle.tree_shape.specs.Laws.Writing.{take_of_length-le}
 use Rattle.rtree_image.specs.Image.{tree_of, rows_below, IsShown, page_number}
+use Rattle.rtree_image.specs.Damage.{IsTestedFor}
 use Rattle.rtree_image.specs.Visits.{rows_inside}
 use Rattle.rtree_image.proofs.Ascending.{within-next, within-le}
 use Rattle.rtree_image.proofs.Picked.{flat-more}
-use Rattle.rtree_image.proofs.Walked.{level-more, level-stops}
+use Rattle.rtree_image.proofs.Walked.{level-more, level-stops, level-tested}
 use Rattle.rtree_image.proofs.walk.visit_leaves.Goals as goal
 
 pub visit_leaf-requires-clause-place : goal.visit_leaf-requires-clause-place
@@ -27,6 +28,9 @@ loop-i-preserved g c =
       later = let more = c.in_default.ensures.later in let so_far = inv.later in omega arith;
       so_far = level-more (g.P.Pages.asked) (g.met.P.Pages.asked_then) (g.P.Pages.lent c.args.pages.now) (page_number s c.args.tree.first 0) c.args.places.now c.loop-i.i 0
           c.loop-i-test.true c.args.pages.now c.loop-i.pages c.visit_leaf.new.pages tt inv.so_far _ inv.same_lent c.in_default.ensures.went;
+      tested = λ contents told.
+          level-tested (page_number s c.args.tree.first 0) c.args.places.now c.loop-i.i 0 c.loop-i-test.true (IsTestedFor c.args.rect.now c.args.tree.first c.args.tree.rows contents)
+          (inv.tested contents told) (c.in_default.ensures.tested contents (inv.same_contents ∙ told));
       mark = suc at;
       rest = next.1;
       keeps = (inv.keeps.0 ++ added.0, added.1 ∙ (ap (λ xs. xs ++ added.0) inv.keeps.1 ∙ append_assoc c.args.out.now.items inv.keeps.0 added.0));
@@ -53,3 +57,8 @@ returns-clause-told g c list shown =
     c.loop-i.invariant.told list shown
     ∙ ap (λ places. c.args.out.now.items ++ flat_map (λ at. rows_inside c.args.rect.now (rows_below (tree_of c.args.tree.rows) list 0 at)) places)
     (take_of_length-le c.args.places.now c.loop-i.i (omega arith))
+
+pub returns-clause-tested : goal.returns-clause-tested
+returns-clause-tested g c contents told =
+    subst (λ places. All (IsTestedFor c.args.rect.now c.args.tree.first c.args.tree.rows contents) (map (page_number (tree_of c.args.tree.rows) c.args.tree.first 0) places))
+    (take_of_length-le c.args.places.now c.loop-i.i (omega arith)) (c.loop-i.invariant.tested contents told)

@@ -1,10 +1,13 @@
-use Rattle.std.proofs.Common.{ℕ, suc, ◌*◌, ◌≤◌, ◌++◌, List, min, get_or, arith, refl, sym, ◌∙◌, ap, subst}
+use Rattle.std.proofs.Common.{ℕ, suc, ◌*◌, ◌≤◌, ◌++◌, List, map, min, get_or, All, arith, refl, sym, ◌∙◌, ap, subst}
+use Rattle.std.proofs.lemmas.List.Elements.{All-nil}
 use Rattle.tree_shape.specs.Shape.{level_size}
+use Rattle.tree_shape.specs.Laws.Writing.{take_of_length-le}
 use Rattle.rtree_image.specs.Image.{tree_of, IsShown, page_number, AreLent}
+use Rattle.rtree_image.specs.Damage.{IsTestedFor}
 use Rattle.rtree_image.specs.Steps.{AscendWithin, children_met}
 use Rattle.rtree_image.proofs.Ascending.{within-next, within-le, within-none, within-append, within-higher}
 use Rattle.rtree_image.proofs.Picked.{flat-more}
-use Rattle.rtree_image.proofs.Walked.{level-more, level-stops}
+use Rattle.rtree_image.proofs.Walked.{level-more, level-stops, level-tested}
 use Rattle.rtree_image.proofs.walk.visit_level.Goals as goal
 
 pub loop-i-init : goal.loop-i-init
@@ -13,6 +16,7 @@ loop-i-init g c = record {
   same_contents = refl;
   later = omega arith;
   so_far = record { asked_for = g.met.P.Pages.asked_none c.args.pages.now; are_lent = λ i d h. absurd (omega arith) };
+  tested = λ contents told. All-nil _;
   mark = 0;
   rest = c.requires.places;
   ascends = subst (AscendWithin 0 (min (0 * 340) (level_size (tree_of c.args.tree.rows) c.args.below))) (sym c.requires.none) (within-none 0 _ (omega arith));
@@ -43,6 +47,9 @@ loop-i-preserved g c =
       later = let more = c.in_default.ensures.later in let so_far = inv.later in omega arith;
       so_far = level-more (g.P.Pages.asked) (g.met.P.Pages.asked_then) (g.P.Pages.lent c.args.pages.now) (page_number s c.args.tree.first (suc c.args.below)) c.args.places.now c.loop-i.i 0
           c.loop-i-test.true c.args.pages.now c.loop-i.pages c.visit.new.pages tt inv.so_far _ inv.same_lent c.in_default.ensures.went;
+      tested = λ contents told.
+          level-tested (page_number s c.args.tree.first (suc c.args.below)) c.args.places.now c.loop-i.i 0 c.loop-i-test.true (IsTestedFor c.args.rect.now c.args.tree.first c.args.tree.rows contents)
+          (inv.tested contents told) (c.in_default.ensures.tested contents (inv.same_contents ∙ told));
       mark = suc at;
       rest = next.1;
       ascends = subst (AscendWithin 0 (min (suc at * 340) size)) (sym added.1)
@@ -71,3 +78,8 @@ returns-in-Err-clause-told g c list shown =
 
 pub returns-clause-ascends : goal.returns-clause-ascends
 returns-clause-ascends g c = within-higher _ _ _ _ (omega arith) c.loop-i.invariant.ascends
+
+pub returns-clause-tested : goal.returns-clause-tested
+returns-clause-tested g c contents told =
+    subst (λ places. All (IsTestedFor c.args.rect.now c.args.tree.first c.args.tree.rows contents) (map (page_number (tree_of c.args.tree.rows) c.args.tree.first (suc c.args.below)) places))
+    (take_of_length-le c.args.places.now c.loop-i.i (omega arith)) (c.loop-i.invariant.tested contents told)
