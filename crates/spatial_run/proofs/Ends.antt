@@ -1,27 +1,23 @@
 -- How the parts of a task make its ending.
-use Rattle.std.specs.Prelude.{◌≡◌, ◌⊎◌, ℕ, ◌^◌, ◌<◌, List, [], length, Option, Some, None, Result, Ok, Err}
+use Rattle.std.specs.Prelude.{◌≡◌, ◌⊎◌, ℕ, ◌^◌, ◌<◌, List, [], length, Option, Some, Ok, Err}
 use Rattle.std.proofs.Common.{arith, inl, inr, refl, sym, ◌∙◌, ap, subst}
 use Rattle.std.specs.FinMap.{empty}
 use Rattle.dev_model.specs.Laws.Reads.{ReadsWithin-start}
-use Rattle.dev_model.specs.Story.{Story}
-use Rattle.dev_model.specs.declared.streams.Failed.{Failed}
 use Rattle.std.proofs.lemmas.List.{length-map}
 use Rattle.script_lang.specs.Views.{command_of, commands_of}
 use Rattle.script_lang.specs.declared.commands.Command as rust
 use Rattle.spatial_run.specs.declared.record.Outcome as rust_outcome
 use Rattle.spatial_run.specs.Views.{outcomes_of}
-use Rattle.table_model.specs.Commands.{Command, Outcome}
+use Rattle.table_model.specs.Commands.{Command}
 use Rattle.table_model.specs.Phases.{Phases}
-use Rattle.table_model.specs.Record.{RunRecord, seqs, Rises}
+use Rattle.table_model.specs.Record.{RunRecord}
 use Rattle.image_model.specs.Opening.{IsOpeningRange}
-use Rattle.store_machine.specs.Machine.{at_opening, after_all}
-use Rattle.store_machine.specs.Standing.{DeviceState, StoreState, Stands, OpensFrom, opening_of}
-use Rattle.store_machine.specs.Laws.Histories.{IsHistory, history-is}
+use Rattle.store_machine.specs.Standing.{DeviceState, StoreState, OpensFrom}
 use Rattle.spatial_run.specs.Tasks.{Task, format, serial, fresh}
-use Rattle.spatial_run.specs.OnDevice.{Formatting, Prepared, OnlyOpened, NotOpened, RanOn}
-use Rattle.spatial_run.specs.Endings.{Ending, bad_words, source_fault, bad_line, too_long, no_memory, format_failed, formatted, not_opened, ran, IsScript, RunsScript, IsCause, IsUntouched, WantsMemory, FormatFailed, OpeningRefused, ScriptRan}
+use Rattle.spatial_run.specs.OnDevice.{Formatting, OnlyOpened, RanOn}
+use Rattle.spatial_run.specs.Endings.{Ending, bad_words, source_fault, bad_line, too_long, no_memory, format_failed, formatted, not_opened, ran, IsScript, RunsScript, IsCause, IsUntouched, ScriptRan}
 use Rattle.spatial_run.specs.Steps.{IsSetupAlone, IsPlain, MadeAll}
-use Rattle.spatial_run.specs.Parts.{IsReadEnd, StoreRan, IsStoreEnd, IsRunEnd, FormatDone, FormatStopped, IsFormatEnd, FreshRan, IsFreshEnd}
+use Rattle.spatial_run.specs.Parts.{IsReadEnd, StoreRan, IsStoreEnd, IsRunEnd, FormatStopped, IsFormatEnd, IsFreshEnd}
 use Rattle.spatial_run.proofs.Making.{ran-on, does-length}
 
 -- nothing was done
@@ -46,7 +42,7 @@ run-end s device now new opened acks no_memory alone opens opened_is reads end =
 )
 run-end s device now new opened acks format_failed alone opens opened_is reads end = end
 run-end s device now new opened acks (formatted pages) alone opens opened_is reads end = end
-run-end s device now new opened acks (not_opened fault) alone opens opened_is reads end = absurd end
+run-end s device now new opened acks (not_opened _) alone opens opened_is reads end = absurd end
 run-end s device now new opened acks (ran t r) alone opens opened_is reads end = (end.0, ran-on device new acks s r opened end.1.few alone opens end.1)
 
 script-task : (task : Task) → (task ≡ serial) ⊎ ((indexes : ℕ) × (task ≡ fresh indexes)) → RunsScript (Some task)
@@ -63,7 +59,7 @@ module _ (so sn : ℕ) (left : Option (List ℕ)) (old new : DeviceState) (acks 
   unread task kind no_memory read same = (script-task task kind, read, record { device = old; prepared = inl refl; reads = subst (λ (d : DeviceState). OnlyOpened old d) (sym same.device) (nothing-read old); acks_are = same.acks_are })
   unread task kind format_failed read same = absurd read
   unread task kind (formatted pages) read same = absurd read
-  unread task kind (not_opened fault) read same = absurd read
+  unread task kind (not_opened _) read same = absurd read
   unread task kind (ran s r) read same = absurd read
 
   -- a script ran on the store that was there
@@ -75,7 +71,7 @@ module _ (so sn : ℕ) (left : Option (List ℕ)) (old new : DeviceState) (acks 
   serial-ran s no_memory read end = (tt, read.0, record { device = old; prepared = inl refl; reads = end.0; acks_are = end.1 })
   serial-ran s format_failed read end = absurd end
   serial-ran s (formatted pages) read end = absurd end
-  serial-ran s (not_opened fault) read end = (tt, read.0, record { device = old; prepared = refl; not_opened = end.0; acks_are = end.1 })
+  serial-ran s (not_opened _) read end = (tt, read.0, record { device = old; prepared = refl; not_opened = end.0; acks_are = end.1 })
   serial-ran s (ran t r) read end = (
     tt,
     read.0,
@@ -98,7 +94,7 @@ module _ (so sn : ℕ) (left : Option (List ℕ)) (old new : DeviceState) (acks 
   fresh-on indexes s device formatting no_memory read end = (tt, read.0, record { device = device; prepared = inr formatting; reads = end.0; acks_are = end.1 })
   fresh-on indexes s device formatting format_failed read end = absurd end
   fresh-on indexes s device formatting (formatted pages) read end = absurd end
-  fresh-on indexes s device formatting (not_opened fault) read end = (tt, read.0, record { device = device; prepared = formatting; not_opened = end.0; acks_are = end.1 })
+  fresh-on indexes s device formatting (not_opened _) read end = (tt, read.0, record { device = device; prepared = formatting; not_opened = end.0; acks_are = end.1 })
   fresh-on indexes s device formatting (ran t r) read end = (
     tt,
     read.0,

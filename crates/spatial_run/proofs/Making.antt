@@ -1,15 +1,14 @@
 -- Commands run one after another, one command more; and what that is for the caller.
-use Rattle.std.specs.Prelude.{◌≡◌, ℕ, ◌+◌, ◌^◌, ◌<◌, ◌≤◌, Bool, true, false, List, [], ◌∷◌, ◌++◌, take, get_or, length, map, Option, Some, None}
+use Rattle.std.specs.Prelude.{◌≡◌, ℕ, ◌+◌, ◌^◌, ◌<◌, true, false, List, [], ◌∷◌, ◌++◌, take, get_or, length, Some, None}
 use Rattle.std.specs.FinMap.{empty}
-use Rattle.std.proofs.Common.{refl, sym, ◌∙◌, ap, subst, suc, arith, append-nil}
+use Rattle.std.proofs.Common.{refl, sym, ◌∙◌, ap, subst, suc, arith}
 use Rattle.std.proofs.lemmas.List.{take_more, map-append}
 use Rattle.std.proofs.lemmas.Option.{same_Some}
-use Rattle.dev_model.specs.Story.{Story, bytes_of, clock_of, WhereTold, IsCalmAt}
+use Rattle.dev_model.specs.Story.{Story, bytes_of, clock_of, IsCalmAt}
 use Rattle.dev_model.specs.Moments.{EachMoment}
-use Rattle.table_model.specs.Table.{Table}
 use Rattle.table_model.specs.Commands.{Command, Outcome}
 use Rattle.table_model.specs.Phases.{Phases}
-use Rattle.table_model.specs.Record.{RunRecord, FitsScript, IsAnswered, history, OneEach, lane_answers}
+use Rattle.table_model.specs.Record.{RunRecord, IsAnswered}
 use Rattle.script_lang.specs.Views.{command_of, commands_of}
 use Rattle.script_lang.specs.declared.commands.Command as rust_command
 use Rattle.image_model.specs.Opening.{IsLookedAt}
@@ -17,7 +16,7 @@ use Rattle.image_model.specs.Recovered.{recovered}
 use Rattle.store_machine.specs.Machine.{Machine, Opening, Group, at_opening, after_all}
 use Rattle.store_machine.specs.Crash.{Keeps, attempted}
 use Rattle.store_machine.specs.Commands.{IsCall, DoesAll, logged_groups, failed_group}
-use Rattle.store_machine.specs.Standing.{DeviceState, StoreState, Stands, Tells, Adds, Makes, OpensFrom, opening_of}
+use Rattle.store_machine.specs.Standing.{DeviceState, StoreState, Stands, Tells, OpensFrom, opening_of}
 use Rattle.store_machine.specs.Laws.Steps.{Adds-none, Adds-then}
 use Rattle.store_machine.specs.Laws.Histories.{IsHistory, history-is}
 use Rattle.store_machine.specs.declared.events.Action.{Action}

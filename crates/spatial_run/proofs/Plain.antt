@@ -1,5 +1,5 @@
 -- A run that has a setup alone: its history and its text.
-use Rattle.std.specs.Prelude.{◌≡◌, ℕ, ◌+◌, ◌<◌, Bool, true, false, cond, ◌||◌, List, [], ◌∷◌, ◌++◌, length, map, All, Result, Ok, Err, is_err}
+use Rattle.std.specs.Prelude.{◌≡◌, ℕ, ◌+◌, ◌<◌, Bool, true, false, cond, ◌||◌, List, [], ◌∷◌, ◌++◌, length, map, All, Result, is_err}
 use Rattle.std.specs.List.{list_any, flat_map}
 use Rattle.std.proofs.Common.{ap, sym, ◌∙◌, subst, arith, refl}
 use Rattle.std.proofs.lemmas.Bool.{lt-ltb}
@@ -8,12 +8,10 @@ use Rattle.dev_model.specs.declared.streams.Failed.{Failed}
 use Rattle.table_model.specs.Commands.{Command, Outcome, answered, refused}
 use Rattle.table_model.specs.Phases.{Phases}
 use Rattle.table_model.specs.Record.{RunRecord, HistoryAnswer, FitsScript, lane_answers, lanes_answers, all_answers, in_order, inserted, history, seqs, Rises, history_text, refusals_text, lanes_refusals_text, record_text, OneEach, OneEachLane, AllApart}
-use Rattle.spatial_run.specs.declared.record.Outcome as rust
 use Rattle.spatial_run.specs.Endings.{is_refused_for, any_refused_for, run_status, first_of, is_damaged, is_device, is_full, is_no_index, is_memory}
 use Rattle.spatial_run.specs.Refused.{refusals_in}
 use Rattle.table_model.specs.declared.Why.{Why}
 use Rattle.spatial_run.specs.declared.outcomes.Refusals.{Refusals}
-use Rattle.spatial_run.specs.Views.{outcome_of, outcomes_of}
 use Rattle.spatial_run.specs.Steps.{IsSetupAlone, answers_text, answered_part}
 
 abbrev seqs_in : List HistoryAnswer → List ℕ

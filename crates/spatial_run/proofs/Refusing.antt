@@ -1,7 +1,7 @@
 -- For which causes commands were refused, one outcome more.
-use Rattle.std.specs.Prelude.{◌≡◌, ℕ, ◌+◌, ◌<◌, Bool, true, false, ◌||◌, List, [], ◌∷◌, ◌++◌, take, get_or, length, map}
+use Rattle.std.specs.Prelude.{◌≡◌, ℕ, ◌+◌, ◌<◌, Bool, true, false, ◌||◌, List, [], ◌∷◌, ◌++◌, take, get_or, length}
 use Rattle.std.specs.List.{list_any}
-use Rattle.std.proofs.Common.{refl, sym, ◌∙◌, ap, suc, arith}
+use Rattle.std.proofs.Common.{refl, sym, ◌∙◌, ap}
 use Rattle.std.proofs.lemmas.List.{take_more, map-append}
 use Rattle.table_model.specs.Commands.{Outcome}
 use Rattle.spatial_run.specs.Endings.{is_refused_for, is_damaged, is_device, is_full, is_no_index, is_memory}

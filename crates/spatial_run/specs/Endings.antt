@@ -211,7 +211,7 @@ HandsOut too_long r = IsEmptyRecord r
 HandsOut no_memory r = IsEmptyRecord r
 HandsOut format_failed r = IsEmptyRecord r
 HandsOut (formatted pages) r = IsEmptyRecord r
-HandsOut (not_opened fault) r = IsEmptyRecord r
+HandsOut (not_opened _) r = IsEmptyRecord r
 HandsOut (ran s outcomes) r = r ≡ outcomes
 
 -- what a call is given and what it leaves of its source, its sink and its device

@@ -1,18 +1,16 @@
 -- What a call of the program does on its device.
-use Rattle.std.specs.Prelude.{◌≡◌, ◌⊎◌, ℕ, ◌≤◌, List, Option, None, Result, Ok, Err, OnOk}
-use Rattle.std.specs.FinMap.{empty}
+use Rattle.std.specs.Prelude.{◌≡◌, ℕ, List, None, Result, Ok, OnOk}
 use Rattle.dev_model.specs.Counts.{HasCause}
-use Rattle.dev_model.specs.Story.{Story, bytes_of, WhereTold, IsCalmAt}
+use Rattle.dev_model.specs.Story.{bytes_of, WhereTold, IsCalmAt}
 use Rattle.dev_model.specs.Moments.{EachMoment, LeavesOnly, ReadsWithin}
 use Rattle.dev_model.specs.declared.streams.Failed.{Failed}
-use Rattle.table_model.specs.Commands.{Command, Outcome}
+use Rattle.table_model.specs.Commands.{Command}
 use Rattle.table_model.specs.Phases.{Phases}
 use Rattle.table_model.specs.Record.{RunRecord, FitsScript, IsAnswered, history}
 use Rattle.image_model.specs.Opening.{IsLookedAt, IsOpeningRange}
 use Rattle.image_model.specs.Recovered.{recovered}
 use Rattle.device_format.specs.Planning.{Formats}
 use Rattle.device_format.specs.Formatting.{IsFreshStore, HasNoStore, IsBeforeOrAfter, IsNoneOrEmpty}
-use Rattle.store_machine.specs.Machine.{Opening}
 use Rattle.store_machine.specs.Crash.{Keeps, attempted}
 use Rattle.store_machine.specs.Commands.{DoesAll, logged_groups, failed_group}
 use Rattle.store_machine.specs.Standing.{DeviceState, StoreState, Adds, OpensFrom}

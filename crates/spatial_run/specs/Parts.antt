@@ -22,7 +22,7 @@ IsReadEnd old new left (Err too_long) = (new ≡ old) × IsScript left (Err scri
 IsReadEnd old new left (Err no_memory) = new ≡ old
 IsReadEnd old new left (Err format_failed) = ⊥
 IsReadEnd old new left (Err (formatted pages)) = ⊥
-IsReadEnd old new left (Err (not_opened fault)) = ⊥
+IsReadEnd old new left (Err (not_opened _)) = ⊥
 IsReadEnd old new left (Err (ran s r)) = ⊥
 
 -- a script ran on a store that was opened
@@ -42,7 +42,7 @@ IsStoreEnd s opened new acks too_long = ⊥
 IsStoreEnd s opened new acks no_memory = (opened.device ≡ new) × (opened.acks ≡ acks)
 IsStoreEnd s opened new acks format_failed = ⊥
 IsStoreEnd s opened new acks (formatted pages) = ⊥
-IsStoreEnd s opened new acks (not_opened fault) = ⊥
+IsStoreEnd s opened new acks (not_opened _) = ⊥
 IsStoreEnd s opened new acks (ran t r) = (t ≡ s) × StoreRan opened new acks s r
 
 -- a script ran on the store of a device, or the store was not opened, or memory was refused

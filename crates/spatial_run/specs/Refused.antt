@@ -1,5 +1,5 @@
 -- For which causes commands were refused, as the code keeps them. No public contract needs this file.
-use Rattle.std.specs.Prelude.{Bool, false, ◌||◌, List, [], ◌∷◌}
+use Rattle.std.specs.Prelude.{◌||◌, List}
 use Rattle.std.specs.List.{list_any}
 use Rattle.table_model.specs.Commands.{Outcome}
 use Rattle.spatial_run.specs.Endings.{is_refused_for, is_damaged, is_device, is_full, is_no_index, is_memory}

@@ -1,6 +1,6 @@
 -- The private steps of a run: one lane's outcomes, what they print, and what a run has while all commands are the
 -- setup. No public contract needs this file.
-use Rattle.std.specs.Prelude.{◌≡◌, ℕ, ◌+◌, ◌<◌, List, [], ◌∷◌, ◌++◌, length}
+use Rattle.std.specs.Prelude.{◌≡◌, ℕ, ◌+◌, List, [], ◌∷◌, ◌++◌, length}
 use Rattle.table_model.specs.Commands.{Command, Outcome, answered, refused}
 use Rattle.table_model.specs.Phases.{Phases}
 use Rattle.table_model.specs.Record.{Rises, seqs}
@@ -54,5 +54,5 @@ IsPlain too_long = Unit {0}
 IsPlain no_memory = Unit {0}
 IsPlain format_failed = Unit {0}
 IsPlain (formatted pages) = Unit {0}
-IsPlain (not_opened fault) = Unit {0}
+IsPlain (not_opened _) = Unit {0}
 IsPlain (ran s r) = IsSetupAlone s × IsSetupAlone r × (length s.setup ≡ length r.setup) × Rises (seqs r.setup)

@@ -1,4 +1,4 @@
-use Rattle.std.proofs.Common.{ap, sym, subst, ◌∙◌}
+use Rattle.std.proofs.Common.{ap, sym, subst}
 use Rattle.store_core.specs.Stores.{device_of}
 use Rattle.spatial_run.specs.Parts.{IsFormatEnd}
 use Rattle.spatial_run.specs.Views.{ending_of}

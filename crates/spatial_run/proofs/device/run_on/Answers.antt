@@ -1,15 +1,10 @@
-use Rattle.std.proofs.Common.{◌≡◌, ◌<◌, ◌^◌, List, [], length, ap, refl, sym, subst, ◌∙◌, arith, map}
-use Rattle.std.proofs.lemmas.List.{length-map}
-use Rattle.script_lang.specs.Views.{command_of, commands_of, phases_of}
-use Rattle.script_lang.specs.declared.commands.Command as rust
-use Rattle.store_machine.specs.Standing.{DeviceState, StoreState}
+use Rattle.std.proofs.Common.{[], refl, sym, subst}
+use Rattle.script_lang.specs.Views.{phases_of}
 use Rattle.store_core.specs.Stores.{state_of, device_of}
-use Rattle.table_model.specs.Record.{RunRecord}
-use Rattle.spatial_run.specs.Endings as model
 use Rattle.spatial_run.specs.Endings.{Ending}
-use Rattle.spatial_run.specs.Steps.{IsPlain, MadeAll}
-use Rattle.spatial_run.specs.Parts.{IsStoreEnd, StoreRan}
-use Rattle.spatial_run.specs.Views.{ending_of, outcomes_of}
+use Rattle.spatial_run.specs.Steps.{IsPlain}
+use Rattle.spatial_run.specs.Parts.{IsStoreEnd}
+use Rattle.spatial_run.specs.Views.{outcomes_of}
 use Rattle.spatial_run.proofs.Ends.{store-ran, store-plain}
 use Rattle.spatial_run.proofs.device.run_on.Goals as goal
 

@@ -1,4 +1,4 @@
-use Rattle.std.proofs.Common.{◌≡◌, inl, inr, refl, sym, subst, ap, Err}
+use Rattle.std.proofs.Common.{inl, refl, sym, subst, ap, Err}
 use Rattle.script_lang.specs.Views.{phases_of}
 use Rattle.store_core.specs.Stores.{device_of}
 use Rattle.spatial_run.specs.Tasks as model

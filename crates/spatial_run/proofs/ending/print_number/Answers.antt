@@ -1,4 +1,4 @@
-use Rattle.std.proofs.Common.{◌≡◌, decimal, ◌++◌, sym, ◌∙◌, subst, Ok, Err, List, ℕ}
+use Rattle.std.proofs.Common.{◌≡◌, decimal, ◌++◌, ◌∙◌, subst, Ok, Err, List, ℕ}
 use Rattle.dev_model.specs.Streams.{Says}
 use Rattle.dev_model.specs.declared.streams.Failed.{Failed}
 use Rattle.dev_model.specs.Laws.Chained.{says_cut, says_then}

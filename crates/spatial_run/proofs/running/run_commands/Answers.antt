@@ -1,8 +1,5 @@
-use Rattle.std.proofs.Common.{◌≡◌, ◌∙◌, ap, arith, take, subst}
-use Rattle.std.proofs.lemmas.List.{take_all}
-use Rattle.script_lang.specs.Views.{commands_of}
+use Rattle.std.proofs.Common.{arith}
 use Rattle.store_core.specs.Stores.{state_of}
-use Rattle.spatial_run.specs.Views.{outcomes_of}
 use Rattle.spatial_run.proofs.Making.{made-next}
 use Rattle.spatial_run.proofs.running.run_commands.Goals as goal
 

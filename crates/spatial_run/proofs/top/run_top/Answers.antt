@@ -1,7 +1,7 @@
-use Rattle.std.proofs.Common.{◌≡◌, ap, sym, subst, Some, map, Option, List, ℕ}
+use Rattle.std.proofs.Common.{ap, sym, subst, map, Option, List, ℕ}
 use Rattle.store_machine.specs.Standing.{DeviceState}
 use Rattle.store_core.specs.Stores.{device_of}
-use Rattle.spatial_run.specs.Tasks.{Task, serial, task_of}
+use Rattle.spatial_run.specs.Tasks.{Task, task_of}
 use Rattle.spatial_run.specs.Endings.{IsCause}
 use Rattle.spatial_run.specs.Views.{ending_of}
 use Rattle.spatial_run.proofs.top.run_top.Goals as goal
