@@ -1,6 +1,6 @@
 -- What a page of a shown tree tells a reader.
-use Rattle.std.proofs.Common.{◌≡◌, ℕ, suc, ◌+◌, ◌-◌, ◌*◌, ◌/◌, ◌^◌, ◌<◌, ◌≤◌, min, true, Option, Some, None, List, [], take, drop, map, get_or, length, All, inl, inr, arith, sym, ◌∙◌, ap, subst, get_or-take, get_or-drop}
-use Rattle.std.specs.Prelude.{slice_index_or, not}
+use Rattle.std.proofs.Common.{◌≡◌, ℕ, suc, ◌+◌, ◌-◌, ◌*◌, ◌/◌, ◌^◌, ◌<◌, ◌≤◌, min, true, Option, Some, None, List, [], take, drop, map, get_or, length, All, inl, inr, arith, refl, sym, ◌∙◌, ap, subst, get_or-take, get_or-drop}
+use Rattle.std.specs.Prelude.{slice_index_or, not, Result, Ok, Err, OnOk}
 use Rattle.std.specs.Ordering.{is_gt, eq_by_cmp}
 use Rattle.std.specs.declared.cmp.Ordering.TheVariants.{Greater}
 use Rattle.std.specs.Int.{from_be_bytes, w32}
@@ -9,13 +9,13 @@ use Rattle.std.proofs.lemmas.List.Elements.{All-take, All-drop}
 use Rattle.std.proofs.lemmas.Bool.{cases_Bool}
 use Rattle.std.proofs.Math.Nat.{div-mul-le_self}
 use Rattle.dev_model.specs.Story.{WhereTold}
-use Rattle.page_codec.specs.Page.{most_rows, rows_on, row_count, ShowsRows}
+use Rattle.page_codec.specs.Page.{IsPage, most_rows, rows_on, row_count, ShowsRows}
 use Rattle.tree_shape.specs.Shape.{level_size, level_start, IsPlace}
 use Rattle.btree_image.specs.Rows.{Layout, IsStored, IsKeyOrder, row_with_key}
 use Rattle.tree_shape.specs.Shape.{numbers}
 use Rattle.btree_image.specs.Image.{shape_of, level_rows, level_kind, IsList, ShowsTree, IsShown, page_number, child_row}
 use Rattle.btree_image.specs.Descent.{rank, place_of_key}
-use Rattle.btree_image.specs.Damage.{AllReadable, IsTreePage, IsDamaged}
+use Rattle.btree_image.specs.Damage.{AllReadable, IsTreePage, IsDamaged, IsTested}
 use Rattle.page_codec.specs.declared.faults.PageFault.TheVariants.{Damaged}
 use Rattle.btree_image.specs.Steps.{IsLastUpTo, row_at}
 use Rattle.tree_shape.specs.Laws.Writing.{length-rows_on}
@@ -193,3 +193,22 @@ damaged_at l first rows contents bytes buf level at page damaged told read place
       number = sym same ∙ number;
       bad = λ well. bad (subst (IsTreePage l rows level) (sym (read bytes told ∙ ap bytes (sym number ∙ same))) well);
     }
+
+-- a page that was read at its place and has its header was tested
+pub tested_at : {T K : Type 0} (l : Layout T K) (first rows : ℕ) (contents : ℕ → List ℕ) (bytes : List ℕ) (level at : ℕ)
+    → IsPlace (shape_of l rows) level at → bytes ≡ contents (page_number l first rows level at) → IsPage (level_kind l level) level bytes
+    → (0 < level → 0 < row_count bytes) → IsTested l first rows contents (page_number l first rows level at)
+tested_at l first rows contents bytes level at place same header some = record {
+  level = level;
+  at = at;
+  place = place;
+  number = refl;
+  header = subst (IsPage (level_kind l level) level) same header;
+  some = subst (λ b. 0 < level → 0 < row_count b) same some;
+}
+
+-- a fact of the last page that was read, where the answer is no refusal, joined to those of the pages before it
+pub tested_last : {A E : Type 0} (result : Result A E) {C : Type 0} (now before : Option C) {P : C → Type 0} (Q : C → Type 0)
+    → ((contents : C) → P contents → before ≡ Some contents → Q contents) → now ≡ before → OnOk result (WhereTold now P) → OnOk result (WhereTold before Q)
+tested_last (Ok value) now before Q join same last = λ contents told. join contents (last contents (same ∙ told)) told
+tested_last (Err fault) now before Q join same last = tt

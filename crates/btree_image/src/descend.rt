@@ -1,15 +1,15 @@
 //! A descent for one key, with one page in hand.
 
-ghost use Rattle.std.specs.Prelude.{◌≡◌, ◌≢◌, ℕ, suc, [], ◌∷◌, ◌+◌, ◌-◌, ◌*◌, ◌^◌, ◌<◌, ◌≤◌, Some, List, length, is_ok, OnOk, OnErr, IfOk, IfErr, IfSome, IfNone, MatchResult};
+ghost use Rattle.std.specs.Prelude.{◌≡◌, ◌≢◌, ℕ, suc, [], ◌∷◌, ◌+◌, ◌-◌, ◌*◌, ◌^◌, ◌<◌, ◌≤◌, Some, List, All, length, is_ok, OnOk, OnErr, IfOk, IfErr, IfSome, IfNone, MatchResult};
 ghost use Rattle.dev_model.specs.Counts.{Rose, HasCause};
 ghost use Rattle.dev_model.specs.Story.{WhereTold};
-ghost use Rattle.page_codec.specs.Page.{ShowsRows};
+ghost use Rattle.page_codec.specs.Page.{IsPage, ShowsRows, row_count};
 ghost use Rattle.page_codec.specs.declared.faults.PageFault.TheVariants.{Failed, Damaged, OutOfMemory};
 ghost use Rattle.tree_shape.specs.Shape.{level_size, level_start, IsRoot, IsPlace};
 ghost use Rattle.btree_image.specs.Rows.{row_with_key};
 ghost use Rattle.btree_image.specs.Image.{shape_of, level_rows, IsList, IsShown, page_number, AreLent};
 ghost use Rattle.btree_image.specs.Descent.{place_of_key, descent};
-ghost use Rattle.btree_image.specs.Damage.{IsInnerPage, IsDamaged};
+ghost use Rattle.btree_image.specs.Damage.{IsInnerPage, IsDamaged, IsTested};
 ghost use Rattle.tree_shape.specs.Asked.{Went, GoesBy};
 
 use crate::TreeRow;
@@ -66,6 +66,8 @@ fn place_from<T: TreeRow>(
 ) -> Option<u64>
     requires level { below < 255 }
     ensures inside { IfSome result (λ at. at < level_size (shape_of T.layout rows) below) }
+    ensures page { IfSome result (λ _. IsPage T.layout.inner (suc below) page.now) }
+    ensures some { IfSome result (λ _. 0 < row_count page.now) }
     ensures damaged { IfNone result (IsInnerPage T.layout rows below page.now → ⊥) }
     ensures told { (list : List T) (at : ℕ) → IsList T.layout rows list → 0 < rows → at ≡ place_of_key T.layout list key.now (suc below)
         → level_start (shape_of T.layout rows) below + place_of_key T.layout list key.now below < 2 ^ 32
@@ -98,6 +100,7 @@ fn step<T: TreeRow, P: Pages>(
     ensures went { Went (P.lent pages.old) (P.asked pages.old pages.new) result (page_number T.layout tree.first tree.rows (suc below) at ∷ []) }
     ensures inside { IfOk result (λ place. place < level_size (shape_of T.layout tree.rows) below) }
     ensures damaged { WhereTold (P.contents pages.old) (λ contents. IfErr result (λ fault. (page : ℕ) → fault ≡ Damaged page → IsDamaged T.layout tree.first tree.rows contents page)) }
+    ensures tested { OnOk result (WhereTold (P.contents pages.old) (λ contents. IsTested T.layout tree.first tree.rows contents (page_number T.layout tree.first tree.rows (suc below) at))) }
     ensures told { (list : List T) → IsShown T.layout (P.contents pages.old) tree.first tree.rows list → 0 < tree.rows → at ≡ place_of_key T.layout list key.now (suc below)
         → MatchResult result (λ place. place ≡ place_of_key T.layout list key.now below) (λ fault. fault ≡ Failed) }
 {
@@ -127,6 +130,7 @@ fn leaf_row<T: TreeRow, P: Pages>(
     ensures needs_no_memory { IfErr result (λ fault. fault ≢ OutOfMemory) }
     ensures went { Went (P.lent pages.old) (P.asked pages.old pages.new) result (page_number T.layout tree.first tree.rows 0 at ∷ []) }
     ensures damaged { WhereTold (P.contents pages.old) (λ contents. IfErr result (λ fault. (page : ℕ) → fault ≡ Damaged page → IsDamaged T.layout tree.first tree.rows contents page)) }
+    ensures tested { OnOk result (WhereTold (P.contents pages.old) (λ contents. IsTested T.layout tree.first tree.rows contents (page_number T.layout tree.first tree.rows 0 at))) }
     ensures told { (list : List T) → IsShown T.layout (P.contents pages.old) tree.first tree.rows list → at ≡ place_of_key T.layout list key.now 0
         → MatchResult result (λ found. found ≡ row_with_key T.layout list key.now) (λ fault. fault ≡ Failed) }
 {
@@ -142,7 +146,8 @@ fn leaf_row<T: TreeRow, P: Pages>(
 /// The row of a tree that has this key, if there is one: a descent from the root to one leaf.
 ///
 /// `Failed` where a page is not given, and `Damaged` where the page that was read last is none for its place. A page's
-/// header is tested, and of its rows what the descent uses. Each page on the way is asked for once, from the root down.
+/// header is tested, and of its rows what the descent uses: where the answer is no refusal each page that was read has the
+/// header of its place, and above the leaves a row. Each page on the way is asked for once, from the root down.
 pub fn find<T: TreeRow, P: Pages>(
     pages: &mut P,
     tree: TreeRef,
@@ -158,6 +163,7 @@ pub fn find<T: TreeRow, P: Pages>(
     ensures found { (list : List T) → IsShown T.layout (P.contents pages.old) tree.first tree.rows list
         → MatchResult result (λ found. found ≡ row_with_key T.layout list key.now) (λ fault. fault ≡ Failed) }
     ensures asked { (seen : List ℕ) × Went (P.lent pages.old) (P.asked pages.old pages.new) result seen
+        × OnOk result (WhereTold (P.contents pages.old) (λ contents. All (IsTested T.layout tree.first tree.rows contents) seen))
         × ((list : List T) (root : ℕ) → IsShown T.layout (P.contents pages.old) tree.first tree.rows list → IsRoot (shape_of T.layout tree.rows) root
         → GoesBy result seen (descent T.layout tree.first list key.now root)) }
 {

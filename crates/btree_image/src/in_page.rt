@@ -126,6 +126,7 @@ pub(crate) fn child_for<T: TreeRow>(
 ) -> Result<u32, BadPage>
     ensures child { IfOk result (λ child. (i : ℕ) × (i < row_count page.now) × (child ≡ from_be_bytes w32 (drop T.layout.key_width (slice_index_or (rows_on page.now) i [])))
         × ((place : ℕ) → IsLastUpTo T.layout key.now (rows_on page.now) place → i ≡ place)) }
+    ensures page { OnOk result (IsPage T.layout.inner level page.now) }
     ensures bad { OnErr result (IsPage T.layout.inner level page.now → row_count page.now ≡ 0) }
 {
     let count = open_page(page, T::INNER, level)?;
@@ -150,6 +151,7 @@ pub(crate) fn row_for<T: TreeRow>(
 ) -> Result<Option<T>, BadPage>
     ensures row { (place : ℕ) → IsLastUpTo T.layout key.now (rows_on page.now) place → IfOk result (λ found. found ≡ row_at T.layout key.now (slice_index_or (rows_on page.now) place [])) }
     ensures none { row_count page.now ≡ 0 → IfOk result (λ found. found ≡ None) }
+    ensures page { OnOk result (IsPage T.layout.leaf 0 page.now) }
     ensures bad { OnErr result (IsPage T.layout.leaf 0 page.now → AllReadable T.layout (rows_on page.now) → ⊥) }
 {
     let count = open_page(page, T::LEAF, 0)?;

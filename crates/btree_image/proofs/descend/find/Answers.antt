@@ -1,8 +1,10 @@
 use Rattle.std.proofs.Common.{◌≡◌, ℕ, suc, ◌-◌, ◌<◌, [], ◌∷◌, ◌++◌, All, arith, refl, sym, ◌∙◌, subst}
 use Rattle.std.specs.Prelude.{IsTrue}
-use Rattle.std.proofs.lemmas.List.Elements.{All-append}
+use Rattle.std.proofs.lemmas.List.Elements.{All-append, All-cons}
 use Rattle.tree_shape.specs.Shape.{IsPlace}
 use Rattle.btree_image.specs.Image.{shape_of, page_number, IsShown}
+use Rattle.btree_image.specs.Damage.{IsTested}
+use Rattle.btree_image.proofs.Told.{tested_last}
 use Rattle.btree_image.specs.Descent.{place_of_key, descent}
 use Rattle.btree_image.proofs.Widths.{leaf_room, inner_room}
 use Rattle.tree_shape.specs.Laws.Places.{place_below, rows_above}
@@ -25,6 +27,7 @@ loop-level-init g c =
       seen = [];
       asked = g.met.P.Pages.asked_none c.args.pages.now;
       are_lent = λ i d h. absurd (omega arith);
+      tested = λ contents told i d h. absurd (omega arith);
       told = λ list shown. root_place l c.args.tree.first c.args.tree.rows list c.args.key.now shown.is k.key_order (leaf_room l _ _ _ k) (inner_room l _ _ _ k) c.root_level-level.result root;
       way = λ list other shown at_root. path_first l c.args.tree.first c.args.tree.rows list c.args.key.now shown.is c.root_level-level.result other root at_root;
     }
@@ -53,6 +56,7 @@ returns-in-Err-clause-asked g c =
       inv.seen ++ page ∷ [],
       went-then (g.P.Pages.asked) (g.met.P.Pages.asked_then) (g.P.Pages.lent c.args.pages.now) c.args.pages.now c.loop-level.pages _ _ inv.seen page []
           inv.asked inv.are_lent _ inv.same_lent (went-err (g.P.Pages.asked) (g.met.P.Pages.asked_then) _ _ _ _ _ c.in-Err.ensures.went),
+      tt,
       λ list root shown at_root.
           let at = subst (λ n. c.loop-level.at ≡ place_of_key l list c.args.key.now n) e (inv.told list shown) in
           let way = subst (λ n. inv.seen ++ descent l c.args.tree.first list c.args.key.now n ≡ descent l c.args.tree.first list c.args.key.now root) e (inv.way list root shown at_root) in (
@@ -82,6 +86,8 @@ loop-level-preserved g c =
           (g.met.P.Pages.asked_then _ _ _ _ _ inv.asked went.asked_for);
       are_lent = All-append (λ page. IsTrue (g.P.Pages.lent c.args.pages.now page)) inv.seen (page ∷ []) inv.are_lent
           (subst (λ lent. All (λ page. IsTrue (lent page)) (page ∷ [])) inv.same_lent went.are_lent);
+      tested = λ contents told. All-append (IsTested l c.args.tree.first c.args.tree.rows contents) inv.seen (page ∷ []) (inv.tested contents told)
+          (All-cons (IsTested l c.args.tree.first c.args.tree.rows contents) page [] (c.in-Ok.ensures.tested contents (inv.same_contents ∙ told)) (λ i d h. absurd (omega arith)));
       told = λ list shown.
           c.in-Ok.ensures.told list (subst (λ contents. IsShown l contents c.args.tree.first c.args.tree.rows list) (sym inv.same_contents) shown) some
           (subst (λ n. c.loop-level.at ≡ place_of_key l list c.args.key.now n) e (inv.told list shown));
@@ -100,6 +106,9 @@ returns-clause-asked g c =
       inv.seen ++ page ∷ [],
       went-then (g.P.Pages.asked) (g.met.P.Pages.asked_then) (g.P.Pages.lent c.args.pages.now) c.args.pages.now c.loop-level.pages _ _ inv.seen page []
           inv.asked inv.are_lent _ inv.same_lent c.leaf_row.ensures.went,
+      tested_last c.leaf_row.result _ _ (λ contents. All (IsTested l c.args.tree.first c.args.tree.rows contents) (inv.seen ++ page ∷ []))
+          (λ contents now told. All-append (IsTested l c.args.tree.first c.args.tree.rows contents) inv.seen (page ∷ []) (inv.tested contents told)
+          (All-cons (IsTested l c.args.tree.first c.args.tree.rows contents) page [] now (λ i d h. absurd (omega arith)))) inv.same_contents c.leaf_row.ensures.tested,
       λ list root shown at_root.
           let at = subst (λ n. c.loop-level.at ≡ place_of_key l list c.args.key.now n) z (inv.told list shown) in
           let way = subst (λ n. inv.seen ++ descent l c.args.tree.first list c.args.key.now n ≡ descent l c.args.tree.first list c.args.key.now root) z (inv.way list root shown at_root) in

@@ -3,6 +3,8 @@ use Rattle.std.specs.Prelude.{IsTrue}
 use Rattle.tree_shape.specs.Shape.{IsRoot, IsPlace}
 use Rattle.btree_image.specs.Image.{shape_of, IsShown}
 use Rattle.btree_image.specs.Descent.{place_of_key, descent}
+use Rattle.btree_image.specs.Damage.{IsTested}
+use Rattle.dev_model.specs.Story.{WhereTold}
 use Rattle.tree_shape.specs.Asked.{given}
 use Rattle.btree_image.proofs.descend.find.Given as goal
 
@@ -16,6 +18,7 @@ invariant-loop-level g l = record {
   seen : List ℕ;
   asked : g.P.Pages.asked l.initial.pages l.pages (given seen);
   are_lent : All (λ page. IsTrue (g.P.Pages.lent l.initial.pages page)) seen;
+  tested : WhereTold (g.P.Pages.contents l.initial.pages) (λ contents. All (IsTested g.T.TreeRow.layout l.tree.first l.tree.rows contents) seen);
   told : (list : List g.row.T.Denot) → IsShown g.T.TreeRow.layout (g.P.Pages.contents l.initial.pages) l.tree.first l.tree.rows list
       → l.at ≡ place_of_key g.T.TreeRow.layout list l.key l.level;
   way : (list : List g.row.T.Denot) (root : ℕ) → IsShown g.T.TreeRow.layout (g.P.Pages.contents l.initial.pages) l.tree.first l.tree.rows list

@@ -1,7 +1,7 @@
-use Rattle.std.proofs.Common.{◌∙◌, inl, inr, length}
+use Rattle.std.proofs.Common.{arith, ◌∙◌, inl, inr, length}
 use Rattle.std.proofs.lemmas.Bool.{cases_lt}
 use Rattle.btree_image.proofs.Widths.{leaf_room, inner_room}
-use Rattle.btree_image.proofs.Told.{readable, shown_read, leaf_place, leaf_row-told, no_rows, damaged_at}
+use Rattle.btree_image.proofs.Told.{readable, shown_read, leaf_place, leaf_row-told, no_rows, damaged_at, tested_at}
 use Rattle.tree_shape.specs.Laws.Trail.{went-failed}
 use Rattle.btree_image.proofs.descend.leaf_row.Goals as goal
 
@@ -35,3 +35,8 @@ pub returns-in-Err-row_for-clause-damaged : goal.returns-in-Err-row_for-clause-d
 returns-in-Err-row_for-clause-damaged g c bytes told page e =
     damaged_at g.T.TreeRow.layout c.args.tree.first c.args.tree.rows _ bytes c.read_place.new.buf 0 c.args.at c.in-Ok.page page
     told c.in-Ok.ensures.bytes c.requires.place c.in-Ok.ensures.number e (λ well. c.in-Err-row_for.ensures.bad well.page well.readable)
+
+pub returns-in-Ok-row_for-clause-tested : goal.returns-in-Ok-row_for-clause-tested
+returns-in-Ok-row_for-clause-tested g c contents told =
+    tested_at g.T.TreeRow.layout c.args.tree.first c.args.tree.rows contents c.read_place.new.buf 0 c.args.at c.requires.place
+    (c.in-Ok.ensures.bytes contents told) c.in-Ok-row_for.ensures.page (λ h. absurd (omega (arith, h)))

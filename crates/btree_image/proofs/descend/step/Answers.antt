@@ -1,11 +1,13 @@
-use Rattle.std.proofs.Common.{◌≡◌, suc, ◌+◌, ◌<◌, ◌^◌, arith, sym, ◌∙◌, Some, None}
+use Rattle.std.specs.Prelude.{IfSome}
+use Rattle.page_codec.specs.Page.{IsPage, row_count}
+use Rattle.std.proofs.Common.{subst, ◌≡◌, suc, ◌+◌, ◌<◌, ◌^◌, arith, sym, ◌∙◌, Some, None}
 use Rattle.std.proofs.Math.Numerals.{add-one}
 use Rattle.tree_shape.specs.Shape.{level_start}
 use Rattle.btree_image.specs.Image.{shape_of}
 use Rattle.btree_image.specs.Descent.{place_of_key}
 use Rattle.btree_image.proofs.Widths.{leaf_room, inner_room}
 use Rattle.tree_shape.specs.Laws.Places.{place_below}
-use Rattle.btree_image.proofs.Told.{place-inside, shown_read}
+use Rattle.btree_image.proofs.Told.{place-inside, shown_read, tested_at}
 use Rattle.tree_shape.specs.Laws.Trail.{went-failed}
 use Rattle.btree_image.proofs.descend.step.Goals as goal
 
@@ -42,3 +44,9 @@ returns-in-None-clause-told g c list shown some e =
     let child = c.place_from.ensures.told list c.args.at shown.is some e fits shows in
     let both : None ≡ Some (place_of_key l list c.args.key.now c.args.below) = sym c.in-None.is ∙ child in
     cc both
+
+pub returns-in-Some-clause-tested : goal.returns-in-Some-clause-tested
+returns-in-Some-clause-tested g c contents told =
+    tested_at g.T.TreeRow.layout c.args.tree.first c.args.tree.rows contents c.read_place.new.buf (suc c.args.below) c.args.at c.requires.place
+    ((rw add-one at c.in-Ok.ensures.bytes) contents told) (subst (λ place. IfSome place (λ _. IsPage g.T.TreeRow.layout.inner (suc c.args.below) c.read_place.new.buf)) c.in-Some.is c.place_from.ensures.page)
+    (λ _. subst (λ place. IfSome place (λ _. 0 < row_count c.read_place.new.buf)) c.in-Some.is c.place_from.ensures.some)
