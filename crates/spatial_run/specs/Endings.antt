@@ -1,5 +1,5 @@
 -- How a call of the program ends: what it prints, with which status, and for which cause.
-use Rattle.std.specs.Prelude.{◌≡◌, ◌⊎◌, ℕ, Bool, true, false, ◌||◌, if◌then◌else◌, List, [], ◌∷◌, ◌++◌, codes, decimal, Option, Some, None, IfSome, Result, Ok, Err, IsErr, is_err}
+use Rattle.std.specs.Prelude.{◌≡◌, ◌⊎◌, ℕ, Bool, true, false, ◌||◌, if◌then◌else◌, List, [], ◌∷◌, ◌++◌, codes, decimal, Option, Some, None, IfSome, Result, Ok, Err, is_err}
 use Rattle.std.specs.List.{list_any}
 use Rattle.dev_model.specs.declared.streams.Failed.{Failed}
 use Rattle.dev_model.specs.Counts.{Rose, Counts}
@@ -57,9 +57,6 @@ RunsScript (Some (fresh indexes)) = Unit {0}
 -- of a source that tells its bytes, what the script of them is
 abbrev pub IsScript : Option (List ℕ) → Result (Phases Command) Wrong → Type 0
 IsScript left read = IfSome left (λ bytes. script_of MOST_BYTES MOST_COMMANDS bytes ≡ read)
-
-abbrev pub HasBadScript : Option (List ℕ) → Type 0
-HasBadScript left = IfSome left (λ bytes. IsErr (script_of MOST_BYTES MOST_COMMANDS bytes))
 
 -- nothing was done on the device, and nothing was acknowledged
 pub record IsUntouched (old new : DeviceState) (acks : List ℕ) : Type 0 where
