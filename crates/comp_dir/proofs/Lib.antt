@@ -1,0 +1,5 @@
+mod Finding
+mod Meaning
+mod Spelled
+mod Turning
+mod Walking

@@ -1,0 +1,6 @@
+-- Laws of the definitions beside this file, for proofs of callers. No public contract needs them.
+pub mod Adding
+pub mod Agreeing
+pub mod Closing
+pub mod OneMore
+pub mod Staying

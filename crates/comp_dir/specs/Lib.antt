@@ -1,0 +1,13 @@
+pub mod Adding
+pub mod Choosing
+pub mod Directory
+pub mod Examples
+pub mod Faults
+pub mod Found
+pub mod Laws
+pub mod Parts
+pub mod Places
+pub mod Rules
+pub mod Slots
+pub mod State
+pub mod Words

@@ -1,0 +1,71 @@
+-- What is on the disk of a directory, and the calls that change it.
+use Rattle.std.specs.Prelude.{◌≡◌, ◌≢◌, ◌⊎◌, ℕ, ◌+◌, [], ◌∷◌, set, Some, None}
+use Rattle.dev_model.specs.Story.{Story, bytes_of, clock_of, IsCalmAt, IsReadable, IsSettled, IsInside, Write, Sync, Calls}
+use Rattle.dev_model.specs.Moments.{EachMoment}
+use Rattle.comp_dir.specs.Places.{slot_start}
+use Rattle.comp_dir.specs.Slots.{slot_bytes}
+use Rattle.comp_dir.specs.Directory.{Directory, slot_body, directory_of, IsLooked}
+use Rattle.comp_dir.specs.declared.places.TheConstants.{OPEN, CLOSED, SLOT_BODY_BYTES}
+use Rattle.comp_dir.specs.declared.slots.Slot.{Slot}
+
+-- all that is looked at to read the directory is on the disk
+abbrev pub IsAtRest : Story → Type 0
+IsAtRest s = IsCalmAt (IsLooked (bytes_of s)) s
+
+-- the gate of a slot is closed
+abbrev pub IsClosed : ℕ → Story → Type 0
+IsClosed n s = bytes_of s (slot_start n) ≢ OPEN
+
+-- the gate of a slot is open
+abbrev pub IsOpen : ℕ → Story → Type 0
+IsOpen n s = bytes_of s (slot_start n) ≡ OPEN
+
+-- a place behind a slot's gate
+abbrev pub IsBehindGate : (n i : ℕ) → Type 0
+IsBehindGate n i = IsInside (slot_start n + 1) SLOT_BODY_BYTES i
+
+-- The slot's bytes stand behind its closed gate, and the next sync puts them on the disk.
+pub record IsWritten (n : ℕ) (slot : Slot) (s : Story) : Type 0 where
+  pub closed : IsClosed n s
+  pub bytes : slot_body n (bytes_of s) ≡ slot_bytes slot
+  pub readable : (i : ℕ) → IsBehindGate n i → IsReadable s.past i
+
+-- The slot's bytes stand behind its closed gate, and are on the disk.
+pub record IsReady (n : ℕ) (slot : Slot) (s : Story) : Type 0 where
+  pub closed : IsClosed n s
+  pub bytes : slot_body n (bytes_of s) ≡ slot_bytes slot
+  pub settled : (i : ℕ) → IsBehindGate n i → IsSettled s.past i
+
+-- the bytes behind the gate
+abbrev pub write_calls : ℕ → Slot → Calls
+write_calls n slot = Write (slot_start n + 1) (slot_bytes slot) ∷ []
+
+-- the gate, open
+abbrev pub open_calls : ℕ → Calls
+open_calls n = Write (slot_start n) (OPEN ∷ []) ∷ Sync ∷ []
+
+-- the gate, closed
+abbrev pub close_calls : ℕ → Calls
+close_calls n = Write (slot_start n) (CLOSED ∷ []) ∷ Sync ∷ []
+
+-- the bytes behind the gate, and then the gate, open
+abbrev pub install_calls : ℕ → Slot → Calls
+install_calls n slot = Write (slot_start n + 1) (slot_bytes slot) ∷ Sync ∷ Write (slot_start n) (OPEN ∷ []) ∷ Sync ∷ []
+
+-- the old directory with this slot open
+abbrev pub with_slot : ℕ → Slot → Directory → Directory
+with_slot n slot slots = set slots n (Some (slot_bytes slot))
+
+-- the old directory with this slot closed
+abbrev pub without_slot : ℕ → Directory → Directory
+without_slot n slots = set slots n None
+
+-- What a directory keeps over a run of calls: it stays on the disk, and it reads the same, now and from each image of each moment.
+pub record HasStayed (s t : Story) : Type 0 where
+  pub at_rest : IsAtRest t
+  pub reads : directory_of (bytes_of t) ≡ directory_of (bytes_of s)
+  pub each : EachMoment (clock_of s) t (λ _ image. directory_of image ≡ directory_of (bytes_of s))
+
+-- the one directory or the other
+abbrev pub IsOneOf : Directory → Directory → Directory → Type 0
+IsOneOf old new image = (image ≡ old) ⊎ (image ≡ new)
