@@ -3,7 +3,8 @@ use Rattle.std.proofs.Common.{◌≡◌, ℕ, zero, suc, [], ◌∷◌, ◌++◌
 use Rattle.dev_model.specs.Story.{Bytes, Sync, part}
 use Rattle.wal_log.specs.Places.{segment_start}
 use Rattle.image_model.specs.Superblock.{superblock_bytes}
-use Rattle.image_model.specs.Directory.{slot_start}
+use Rattle.comp_dir.specs.Places.{slot_start}
+use Rattle.image_model.specs.declared.places.TheConstants.{LOG_START}
 use Rattle.device_format.specs.Planning.{close_gate, close_each, close_gates, start_log, write_superblock}
 use Rattle.device_format.specs.Examples.{AreCounted, HaveNoOpenSlot, HaveOneSuperblock, example_superblock}
 
@@ -14,7 +15,7 @@ length-close_each gate (suc count) = omega (arith, length-append (close_each gat
 
 length-close_gates : length close_gates ≡ 517
 length-close_gates =
-    omega (arith, length-append (close_each slot_start 512) (close_each segment_start 4 ++ Sync ∷ []), length-append (close_each segment_start 4) (Sync ∷ []), length-close_each slot_start 512, length-close_each segment_start 4)
+    omega (arith, length-append (close_each slot_start 512) (close_each (segment_start LOG_START) 4 ++ Sync ∷ []), length-append (close_each (segment_start LOG_START) 4) (Sync ∷ []), length-close_each slot_start 512, length-close_each (segment_start LOG_START) 4)
 
 rest_length : (indexes pages : ℕ) → length (close_gates ++ (start_log ++ write_superblock indexes pages)) ≡ 525
 rest_length indexes pages = omega (arith, length-append close_gates (start_log ++ write_superblock indexes pages), length-close_gates)

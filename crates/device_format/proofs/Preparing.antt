@@ -5,7 +5,8 @@ use Rattle.dev_model.specs.Story.{Bytes, Calls, Story, Write, Sync, after, bytes
 use Rattle.dev_model.specs.Laws.Ranges.{patched-outside, patched-inside, part-list, part-patched}
 use Rattle.wal_log.specs.Places.{segment_start}
 use Rattle.image_model.specs.Superblock.{superblock_bytes}
-use Rattle.image_model.specs.Directory.{slot_start}
+use Rattle.comp_dir.specs.Places.{slot_start}
+use Rattle.image_model.specs.declared.places.TheConstants.{LOG_START}
 use Rattle.device_format.specs.Planning.{start_log}
 use Rattle.device_format.proofs.EmptyLog.{first_header, length-first_header}
 use Rattle.device_format.proofs.Ready.{IsReady, IsBehindGate}
@@ -32,7 +33,7 @@ length-head = omega (arith, length-append first_header (0 ∷ []), length-first_
 
 module _ (pages indexes : ℕ) (s : Story) (closed : AreClosed s) where
   abbrev start : ℕ
-  start = segment_start 0
+  start = segment_start LOG_START 0
 
   abbrev fields : List ℕ
   fields = superblock_bytes indexes pages
@@ -99,7 +100,7 @@ module _ (pages indexes : ℕ) (s : Story) (closed : AreClosed s) where
     started = gate_there;
     header = header_there;
     no_record = no_record_there;
-    others = λ k some lt. zero_stands (segment_start k) (omega arith) (inr (omega (arith, some))) (closed.headers k lt);
+    others = λ k some lt. zero_stands (segment_start LOG_START k) (omega arith) (inr (omega (arith, some))) (closed.headers k lt);
   }
 
   abbrev end : Story

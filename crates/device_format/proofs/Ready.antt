@@ -8,9 +8,11 @@ use Rattle.wal_log.specs.Segments.{Segments, segment_at, segment_records, segmen
 use Rattle.wal_log.specs.Rules.{Opens as LogOpens, records_of}
 use Rattle.wal_log.specs.Laws.Agreeing.{segment_at-started, segment_at-shut}
 use Rattle.image_model.specs.Superblock.{superblock_bytes, declared}
-use Rattle.image_model.specs.Directory.{slot_start, HasNoComponent}
+use Rattle.comp_dir.specs.Places.{slot_start}
+use Rattle.image_model.specs.Directory.{HasNoComponent}
 use Rattle.image_model.specs.Opening.{ends, IsLookedAt, IsLookedInSuperblock, IsSlotGate, IsLookedInLog}
 use Rattle.image_model.specs.Recovered.{replayed}
+use Rattle.image_model.specs.declared.places.TheConstants.{LOG_START}
 use Rattle.device_format.specs.Formatting.{IsEmptyStore}
 use Rattle.device_format.proofs.EmptyLog.{first_header, empty_log, empty_log-opens}
 
@@ -18,38 +20,38 @@ use Rattle.device_format.proofs.EmptyLog.{first_header, empty_log, empty_log-ope
 pub record IsReady (pages indexes : ℕ) (bytes : Bytes) : Type 0 where
   pub fields : part 1 15 bytes ≡ superblock_bytes indexes pages
   pub slots : HasNoComponent bytes
-  pub started : bytes (segment_start 0) ≡ 165
-  pub header : part (segment_start 0 + 1) 63 bytes ≡ first_header
-  pub no_record : bytes (segment_start 0 + 64) ≢ 165
-  pub others : (k : ℕ) → 0 < k → k < 4 → bytes (segment_start k) ≢ 165
+  pub started : bytes (segment_start LOG_START 0) ≡ 165
+  pub header : part (segment_start LOG_START 0 + 1) 63 bytes ≡ first_header
+  pub no_record : bytes (segment_start LOG_START 0 + 64) ≢ 165
+  pub others : (k : ℕ) → 0 < k → k < 4 → bytes (segment_start LOG_START k) ≢ 165
 
 -- the gate of a segment's header
 abbrev pub IsHeaderGate : ℕ → Type 0
-IsHeaderGate i = (k : ℕ) × (k < 4) × (i ≡ segment_start k)
+IsHeaderGate i = (k : ℕ) × (k < 4) × (i ≡ segment_start LOG_START k)
 
 -- the places that this speaks of: the superblock behind its gate, the gates, and segment 0 up to the gate of its first record
 abbrev pub IsBehindGate : ℕ → Type 0
-IsBehindGate i = ((0 < i) × (i < 16)) ⊎ (IsSlotGate i ⊎ (IsHeaderGate i ⊎ ((segment_start 0 ≤ i) × (i ≤ segment_start 0 + 64))))
+IsBehindGate i = ((0 < i) × (i < 16)) ⊎ (IsSlotGate i ⊎ (IsHeaderGate i ⊎ ((segment_start LOG_START 0 ≤ i) × (i ≤ segment_start LOG_START 0 + 64))))
 
 pub ready-same : (pages indexes : ℕ) (a b : Bytes) → ((i : ℕ) → IsBehindGate i → b i ≡ a i) → IsReady pages indexes a → IsReady pages indexes b
 ready-same pages indexes a b same is = record {
   fields = part-same 1 15 b a (λ i low high. same i (inl (omega arith, omega arith))) ∙ is.fields;
   slots = λ n lt is_open. is.slots n lt (sym (same (slot_start n) (inr (inl (n, lt, refl)))) ∙ is_open);
-  started = same (segment_start 0) (inr (inr (inr (omega arith, omega arith)))) ∙ is.started;
-  header = part-same (segment_start 0 + 1) 63 b a (λ i low high. same i (inr (inr (inr (omega arith, omega arith))))) ∙ is.header;
-  no_record = λ is_open. is.no_record (sym (same (segment_start 0 + 64) (inr (inr (inr (omega arith, omega arith))))) ∙ is_open);
-  others = λ k some lt is_open. is.others k some lt (sym (same (segment_start k) (inr (inr (inl (k, lt, refl))))) ∙ is_open);
+  started = same (segment_start LOG_START 0) (inr (inr (inr (omega arith, omega arith)))) ∙ is.started;
+  header = part-same (segment_start LOG_START 0 + 1) 63 b a (λ i low high. same i (inr (inr (inr (omega arith, omega arith))))) ∙ is.header;
+  no_record = λ is_open. is.no_record (sym (same (segment_start LOG_START 0 + 64) (inr (inr (inr (omega arith, omega arith))))) ∙ is_open);
+  others = λ k some lt is_open. is.others k some lt (sym (same (segment_start LOG_START k) (inr (inr (inl (k, lt, refl))))) ∙ is_open);
 }
 
 module _ (pages indexes : ℕ) (bytes : Bytes) (is : IsReady pages indexes bytes) where
   -- segment 0 is started and has no record
-  first_one : (segment_at 0 bytes ≡ Some (started_segment first_header)) × (segment_records 0 bytes ≡ [])
-  first_one = segment_at-started 0 bytes first_header is.started is.header is.no_record
+  first_one : (segment_at LOG_START 0 bytes ≡ Some (started_segment first_header)) × (segment_records LOG_START 0 bytes ≡ [])
+  first_one = segment_at-started LOG_START 0 bytes first_header is.started is.header is.no_record
 
-  log_is : segments_of bytes ≡ empty_log
+  log_is : segments_of LOG_START bytes ≡ empty_log
   log_is i =
-      first_one.0 i ∷ segment_at-shut 1 bytes (is.others 1 (omega arith) (omega arith)) i ∷ segment_at-shut 2 bytes (is.others 2 (omega arith) (omega arith)) i
-      ∷ segment_at-shut 3 bytes (is.others 3 (omega arith) (omega arith)) i ∷ []
+      first_one.0 i ∷ segment_at-shut LOG_START 1 bytes (is.others 1 (omega arith) (omega arith)) i ∷ segment_at-shut LOG_START 2 bytes (is.others 2 (omega arith) (omega arith)) i
+      ∷ segment_at-shut LOG_START 3 bytes (is.others 3 (omega arith) (omega arith)) i ∷ []
 
   second_field : get_or (superblock_bytes indexes pages) 1 0 ≡ indexes
   unfolding superblock_bytes
@@ -77,7 +79,7 @@ module _ (pages indexes : ℕ) (bytes : Bytes) (is : IsReady pages indexes bytes
     no_records = ap records_of log_is;
   }
 
-  looked_in_segment : (k : ℕ) → k < 4 → (i : ℕ) → bytes (segment_start k) ≡ 165 → segment_start k ≤ i → i ≤ record_start k (length (segment_records k bytes)) → IsBehindGate i
+  looked_in_segment : (k : ℕ) → k < 4 → (i : ℕ) → bytes (segment_start LOG_START k) ≡ 165 → segment_start LOG_START k ≤ i → i ≤ record_start LOG_START k (length (segment_records LOG_START k bytes)) → IsBehindGate i
   looked_in_segment zero lt i started low high = inr (inr (inr (omega (arith, low), omega (arith, high, ap length first_one.1))))
   looked_in_segment (suc k) lt i started low high = absurd (is.others (suc k) (omega arith) lt started)
 

@@ -5,7 +5,8 @@ use Rattle.dev_model.specs.Moments.{AreSpared}
 use Rattle.dev_model.specs.Laws.Ranges.{patched-outside, patched-inside}
 use Rattle.dev_model.specs.Laws.Runs.{after-append}
 use Rattle.wal_log.specs.Places.{segment_start}
-use Rattle.image_model.specs.Directory.{slot_start}
+use Rattle.comp_dir.specs.Places.{slot_start}
+use Rattle.image_model.specs.declared.places.TheConstants.{LOG_START}
 use Rattle.device_format.specs.Planning.{close_gate, close_each, close_gates}
 
 pub record HasZero (i : ℕ) (s : Story) : Type 0 where
@@ -53,16 +54,16 @@ zero_each gate (suc count) n s lt =
 -- all gates are closed
 pub record AreClosed (s : Story) : Type 0 where
   pub slots : (n : ℕ) → n < 512 → HasZero (slot_start n) s
-  pub headers : (k : ℕ) → k < 4 → HasZero (segment_start k) s
+  pub headers : (k : ℕ) → k < 4 → HasZero (segment_start LOG_START k) s
 
 pub closed-gates : (s : Story) → AreClosed (after s close_gates)
 closed-gates s =
     let mid : Story = after s (close_each slot_start 512) in
-    let end : Story = after mid (close_each segment_start 4) in
-    let all : after s close_gates ≡ with_call end Sync = after-append s (close_each slot_start 512) (close_each segment_start 4 ++ Sync ∷ []) ∙ after-append mid (close_each segment_start 4) (Sync ∷ []) in
+    let end : Story = after mid (close_each (segment_start LOG_START) 4) in
+    let all : after s close_gates ≡ with_call end Sync = after-append s (close_each slot_start 512) (close_each (segment_start LOG_START) 4 ++ Sync ∷ []) ∙ after-append mid (close_each (segment_start LOG_START) 4) (Sync ∷ []) in
     subst AreClosed (sym all) (record {
-      slots = λ n lt. synced (slot_start n) end (zero_behind segment_start 4 (slot_start n) mid (zero_each slot_start 512 n s lt));
-      headers = λ k lt. synced (segment_start k) end (zero_each segment_start 4 k mid lt);
+      slots = λ n lt. synced (slot_start n) end (zero_behind (segment_start LOG_START) 4 (slot_start n) mid (zero_each slot_start 512 n s lt));
+      headers = λ k lt. synced (segment_start LOG_START k) end (zero_each (segment_start LOG_START) 4 k mid lt);
     })
   where
     synced : (i : ℕ) (s : Story) → HasZero i s → HasZero i (with_call s Sync)
@@ -80,5 +81,5 @@ spared-each gate (suc count) i before = spared-append (close_each gate count) (c
 
 pub spared-gates : AreSpared close_gates 0
 spared-gates =
-    spared-append (close_each slot_start 512) (close_each segment_start 4 ++ Sync ∷ []) 0 (spared-each slot_start 512 0 (λ n. omega arith))
-    (spared-append (close_each segment_start 4) (Sync ∷ []) 0 (spared-each segment_start 4 0 (λ k. omega arith)) (tt, tt))
+    spared-append (close_each slot_start 512) (close_each (segment_start LOG_START) 4 ++ Sync ∷ []) 0 (spared-each slot_start 512 0 (λ n. omega arith))
+    (spared-append (close_each (segment_start LOG_START) 4) (Sync ∷ []) 0 (spared-each (segment_start LOG_START) 4 0 (λ k. omega arith)) (tt, tt))

@@ -2,7 +2,7 @@
 use Rattle.std.specs.Prelude.{◌≡◌, ℕ, ◌+◌, List, [], ◌∷◌, length, Bool}
 use Rattle.dev_model.specs.Story.{Bytes, Story, part}
 use Rattle.wal_log.specs.declared.places.TheConstants.{OPEN}
-use Rattle.image_model.specs.Directory.{slot_start}
+use Rattle.comp_dir.specs.Places.{slot_start}
 use Rattle.device_format.specs.Planning.{format_calls, write_ticks}
 use Rattle.device_format.specs.Formatting.{IsEmptyStore}
 

@@ -8,12 +8,13 @@ use Rattle.wal_log.specs.declared.places.TheConstants.{OPEN}
 use Rattle.image_model.specs.Superblock.{declared}
 use Rattle.image_model.specs.Opening.{IsLookedAt}
 use Rattle.image_model.specs.Recovered.{Recovers}
+use Rattle.image_model.specs.declared.places.TheConstants.{LOG_START}
 
 -- the image of a store of so many pages that has no record, with these declared indexes
 pub record IsEmptyStore (pages indexes : ℕ) (bytes : Bytes) : Type 0 where
   pub recovers : Recovers pages empty bytes
   pub declares : declared bytes ≡ indexes
-  pub no_records : records_of (segments_of bytes) ≡ []
+  pub no_records : records_of (segments_of LOG_START bytes) ≡ []
 
 -- such a store is what is read, and what each crash leaves where an opening looks
 pub record IsFreshStore (pages indexes : ℕ) (s : Story) : Type 0 where

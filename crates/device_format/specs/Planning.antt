@@ -5,8 +5,9 @@ use Rattle.wal_log.specs.Places.{segment_start}
 use Rattle.wal_log.specs.State.{start_calls}
 use Rattle.wal_log.specs.declared.places.TheConstants.{OPEN}
 use Rattle.image_model.specs.Superblock.{superblock_bytes}
-use Rattle.image_model.specs.Directory.{slot_start}
-use Rattle.image_model.specs.declared.places.TheConstants.{SLOTS}
+use Rattle.comp_dir.specs.Places.{slot_start}
+use Rattle.comp_dir.specs.declared.places.TheConstants.{SLOTS}
+use Rattle.image_model.specs.declared.places.TheConstants.{LOG_START}
 
 -- the gate at this place, closed
 abbrev pub close_gate : ℕ → Call
@@ -23,11 +24,11 @@ close_superblock_if is_open = if is_open then close_gate 0 ∷ Sync ∷ [] else 
 
 -- the gate of each slot and the gate of each segment's header, and one sync
 abbrev pub close_gates : Calls
-close_gates = close_each slot_start SLOTS ++ (close_each segment_start 4 ++ Sync ∷ [])
+close_gates = close_each slot_start SLOTS ++ (close_each (segment_start LOG_START) 4 ++ Sync ∷ [])
 
 -- segment 0 with generation 0, in which the first record will have the number 1
 abbrev pub start_log : Calls
-start_log = start_calls 0 0 1
+start_log = start_calls LOG_START 0 0 1
 
 -- the superblock behind its gate, and then the gate, open
 abbrev pub write_superblock : (indexes pages : ℕ) → Calls

@@ -11,7 +11,8 @@ use crate::gates::{close_gates, close_superblock_if, is_superblock_open};
 use crate::superblock::write_superblock;
 use dev_model::{Device, Failed};
 use geo_base::IndexSet;
-use wal_log::{LOG_PAGES, start_segment};
+use image_model::{LOG_PAGES, LOG_START};
+use wal_log::start_segment;
 
 /// Makes the device an empty store with these declared indexes, whatever bytes it has.
 ///
@@ -54,6 +55,6 @@ fn write_store<D: Device>(device: &mut D, is_open: bool, indexes: IndexSet) -> R
 {
     close_superblock_if(device, is_open)?;
     close_gates(device)?;
-    start_segment(device, 0, 0, 1)?;
+    start_segment(device, LOG_START, 0, 0, 1)?;
     write_superblock(device, indexes)
 }

@@ -2,13 +2,14 @@
 ghost use Rattle.std.specs.Prelude.{◌≡◌, ◌≤◌, ◌∷◌, [], IfOk, if◌then◌else◌};
 ghost use Rattle.dev_model.specs.Counts.{HasCause};
 ghost use Rattle.dev_model.specs.Story.{WhereTold, Read, Did, Ticks};
-ghost use Rattle.image_model.specs.Directory.{slot_start};
+ghost use Rattle.comp_dir.specs.Places.{slot_start};
 ghost use Rattle.wal_log.specs.Places.{segment_start};
 ghost use Rattle.device_format.specs.Planning.{TellsGate, close_each, close_gates, close_superblock_if};
 
+use comp_dir::{DIRECTORY_START, SLOT_BYTES, SLOTS};
 use dev_model::{Device, Failed, write_synced};
-use image_model::{DIRECTORY_START, SLOT_BYTES, SLOTS};
-use wal_log::{LOG_PAGES, OPEN, segment_start};
+use image_model::{LOG_PAGES, LOG_START};
+use wal_log::{OPEN, segment_start};
 
 /// Reads whether the superblock's gate is open.
 pub fn is_superblock_open<D: Device>(device: &mut D) -> Result<bool, Failed>
@@ -70,13 +71,13 @@ fn close_slots<D: Device>(device: &mut D) -> Result<(), Failed>
 #[tactic(auto, using(crate::proofs::Closing::close_none, crate::proofs::Closing::close_more))]
 fn close_headers<D: Device>(device: &mut D) -> Result<(), Failed>
     requires { LOG_PAGES ≤ D.pages device.old }
-    ensures did { Did (close_each segment_start 4) (D.story device.old) (D.story device.new) result }
+    ensures did { Did (close_each (segment_start LOG_START) 4) (D.story device.old) (D.story device.new) result }
     ensures ticks { Ticks 4 (D.clock device.old) (D.clock device.new) result }
     ensures same_pages { D.pages device.new ≡ D.pages device.old }
     ensures cause { HasCause (D.fault_count device.old) (D.fault_count device.new) result }
 {
     for segment in 0..4 {
-        device.write(segment_start(segment), &[0])?;
+        device.write(segment_start(LOG_START, segment), &[0])?;
     }
     Ok(())
 }

@@ -4,9 +4,10 @@ ghost use Rattle.std.specs.Prelude.{◌≡◌, IfSome};
 use crate::format_dev;
 use dev_model::{Device, MemDevice, Torn};
 use geo_base::{IndexSet, Point};
+use image_model::{LOG_PAGES, LOG_START};
 use std::alloc::Global;
 use std::test::Fail;
-use wal_log::{LOG_PAGES, Log, LogOp, MOST_RECORDS, Record};
+use wal_log::{Log, LogOp, MOST_RECORDS, Record};
 
 const MOST_LSN: u64 = 0x4000_0000_0000_0000;
 
@@ -70,7 +71,7 @@ fn find_log(device: &mut MemDevice, bits: u8, alloc: Global) -> Finding {
     if device.pages() < LOG_PAGES {
         return Finding::Refused;
     }
-    match Log::read_all(device, &[0], alloc) {
+    match Log::read_all(device, LOG_START, &[0], alloc) {
         Ok((_, records)) => Finding::Store(bits, records.len()),
         Err(_) => Finding::Refused,
     }
@@ -99,7 +100,7 @@ fn add_record(device: &mut MemDevice, alloc: Global) -> Option<()> {
     if device.pages() < LOG_PAGES {
         return None;
     }
-    let (mut log, _) = Log::read_all(device, &[0], alloc).ok()?;
+    let (mut log, _) = Log::read_all(device, LOG_START, &[0], alloc).ok()?;
     if log.records >= MOST_RECORDS || log.next_lsn >= MOST_LSN {
         return None;
     }

@@ -1,12 +1,9 @@
 -- The slots of the directory. Until there are components each of them has to be closed.
-use Rattle.std.specs.Prelude.{◌≡◌, ◌≢◌, ℕ, ◌+◌, ◌*◌, ◌<◌}
+use Rattle.std.specs.Prelude.{◌≡◌, ◌≢◌, ℕ, ◌<◌}
 use Rattle.dev_model.specs.Story.{Bytes}
 use Rattle.wal_log.specs.declared.places.TheConstants.{OPEN}
-use Rattle.image_model.specs.declared.places.TheConstants.{DIRECTORY_START, SLOT_BYTES, SLOTS}
-
--- the gate of a slot
-abbrev pub slot_start : ℕ → ℕ
-slot_start n = DIRECTORY_START + SLOT_BYTES * n
+use Rattle.comp_dir.specs.Places.{slot_start}
+use Rattle.comp_dir.specs.declared.places.TheConstants.{SLOTS}
 
 -- no slot is open
 abbrev pub HasNoComponent : Bytes → Type 0

@@ -11,6 +11,7 @@ use Rattle.wal_log.specs.declared.records.Record.{Record}
 use Rattle.wal_log.specs.declared.records.LogOp.{LogOp}
 use Rattle.wal_log.specs.declared.records.LogOp.TheVariants.{Put, Del}
 use Rattle.image_model.specs.Opening.{Opens}
+use Rattle.image_model.specs.declared.places.TheConstants.{LOG_START}
 
 -- the write of the table that a write of the log is
 abbrev pub write_of : LogOp → Write
@@ -28,7 +29,7 @@ replayed t records = after_writes t (map (λ r. write_of r.op) records)
 
 -- all records of the log, one after another, from the empty table on
 abbrev pub recovered : Bytes → Table
-recovered bytes = replayed empty (records_of (segments_of bytes))
+recovered bytes = replayed empty (records_of (segments_of LOG_START bytes))
 
 -- the image of a device of so many pages opens, and this is its table
 pub record Recovers (pages : ℕ) (table : Table) (bytes : Bytes) : Type 0 where

@@ -1,7 +1,7 @@
 // A task on a device: a format, and a script on the store that is there.
 ghost use Rattle.std.specs.Prelude.{◌≡◌, ◌≤◌, [], Some, Ok, Err, IfOk, IfErr};
 ghost use Rattle.std.specs.Option.{option_map};
-ghost use Rattle.wal_log.specs.declared.places.TheConstants.{LOG_PAGES};
+ghost use Rattle.image_model.specs.declared.places.TheConstants.{LOG_PAGES};
 ghost use Rattle.script_lang.specs.Views.{phases_of};
 ghost use Rattle.store_machine.specs.Standing.{DeviceState, IsReady, OpensFrom};
 ghost use Rattle.store_core.specs.Stores.{state_of, device_of};

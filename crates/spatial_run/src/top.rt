@@ -1,6 +1,6 @@
 // The top calls: what the program does with its words, its script, its output and its device.
 ghost use Rattle.std.specs.Prelude.{◌≤◌, Some, map};
-ghost use Rattle.wal_log.specs.declared.places.TheConstants.{LOG_PAGES};
+ghost use Rattle.image_model.specs.declared.places.TheConstants.{LOG_PAGES};
 ghost use Rattle.store_core.specs.Stores.{device_of};
 ghost use Rattle.spatial_run.specs.Tasks.{task_of, serial};
 ghost use Rattle.spatial_run.specs.Endings.{Ends};

@@ -6,7 +6,8 @@ use Rattle.dev_model.specs.Laws.Reads.{ReadsWithin-start, ReadsWithin-then, Read
 use Rattle.dev_model.specs.declared.streams.Failed.{Failed}
 use Rattle.dev_model.specs.Laws.Images.{IsReadable-settled}
 use Rattle.dev_model.specs.Laws.Runs.{before_or_since}
-use Rattle.image_model.specs.Directory.{slot_start, HasNoComponent, IsBadSlot}
+use Rattle.comp_dir.specs.Places.{slot_start}
+use Rattle.image_model.specs.Directory.{HasNoComponent, IsBadSlot}
 use Rattle.image_model.specs.Opening.{IsSlotGate, IsOpeningRange}
 use Rattle.store_machine.specs.Standing.{DeviceState}
 use Rattle.store_core.specs.Read.{IsFirstOpen}

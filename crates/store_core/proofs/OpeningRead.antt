@@ -22,6 +22,7 @@ use Rattle.image_model.specs.Superblock.{IsFormatted, declared}
 use Rattle.image_model.specs.Directory.{HasNoComponent}
 use Rattle.image_model.specs.Opening.{ends, IsLookedAt, IsLookedInSuperblock, IsSlotGate, IsLookedInLog, IsOpeningRange}
 use Rattle.image_model.specs.Recovered.{replayed, recovered, Recovers}
+use Rattle.image_model.specs.declared.places.TheConstants.{LOG_START}
 use Rattle.store_machine.specs.Crash.{Keeps}
 use Rattle.store_machine.specs.Standing.{DeviceState, StoreState, IsAtRest, Stands, OpensFrom, opening_of}
 use Rattle.store_machine.specs.Laws.Rests.{recovers-now}
@@ -51,17 +52,17 @@ calm-superblock s calm i looked = calm i (inl looked)
 calm-gates : (s t : Story) → Same s t → IsCalmAt (IsLookedAt (bytes_of s)) s → IsCalmAt IsSlotGate t
 calm-gates s t same calm i gate = same.settled i (calm i (inr (inl gate)))
 
-calm-log : (s t : Story) → Same s t → IsCalmAt (IsLookedAt (bytes_of s)) s → IsStill t
+calm-log : (s t : Story) → Same s t → IsCalmAt (IsLookedAt (bytes_of s)) s → IsStill LOG_START t
 calm-log s t same calm k lt i looked = same.settled i (calm i (inr (inr (subst (λ (b : Bytes). IsLookedInLog b i) same.bytes (k, lt, looked)))))
 
 -- reads of the log are reads of an opening
-pub reads-log : (s : Story) (now : Option Story) → ReadsLog s now → ReadsWithin IsOpeningRange s now
-reads-log s now reads = ReadsWithin-weaker IsInLog IsOpeningRange s now (λ at count in_log. inr in_log) reads
+pub reads-log : (s : Story) (now : Option Story) → ReadsLog LOG_START s now → ReadsWithin IsOpeningRange s now
+reads-log s now reads = ReadsWithin-weaker (IsInLog LOG_START) IsOpeningRange s now (λ at count in_log. inr in_log) reads
 
 pub reads-two : (a b c : Option Story) → WhereTold a (λ s. ReadsWithin IsOpeningRange s b) → WhereTold b (λ s. ReadsWithin IsOpeningRange s c) → WhereTold a (λ s. ReadsWithin IsOpeningRange s c)
 reads-two a b c first second s is = ReadsWithin-then IsOpeningRange s b c (first s is) second
 
-pub reads-three : (a b c d : Option Story) → WhereTold a (λ s. ReadsWithin IsOpeningRange s b) → WhereTold b (λ s. ReadsWithin IsOpeningRange s c) → WhereTold c (λ s. ReadsLog s d) → WhereTold a (λ s. ReadsWithin IsOpeningRange s d)
+pub reads-three : (a b c d : Option Story) → WhereTold a (λ s. ReadsWithin IsOpeningRange s b) → WhereTold b (λ s. ReadsWithin IsOpeningRange s c) → WhereTold c (λ s. ReadsLog LOG_START s d) → WhereTold a (λ s. ReadsWithin IsOpeningRange s d)
 reads-three a b c d first second third = reads-two a c d (reads-two a b c first second) (λ s is. reads-log s d (third s is))
 
 -- where the superblock was read, and the directory is refused
@@ -99,37 +100,38 @@ module _ (pages indexes : ℕ) (a b c : Option Story) (front : HasFront pages in
   both : ReadsWithin IsOpeningRange s c
   both = reads-two a b c front.first front.second s is
 
-  pub image-read : (d : Option Story) (log : Log) (records : List Record)
-      → WhereTold c (λ t. IsStill t → LogOpens ends (segments_of (bytes_of t)))
-      → WhereTold c (λ t. IsStill t → records ≡ records_of (segments_of (bytes_of t)))
-      → WhereTold c (λ t. IsStill t → IsLogOf log (segments_of (bytes_of t)))
-      → WhereTold c (λ t. IsStill t → WhereTold d (LogAtRest log))
+  pub image-read : (d : Option Story) (log : Log) (records : List Record) → log.start ≡ LOG_START
+      → WhereTold c (λ t. IsStill LOG_START t → LogOpens ends (segments_of LOG_START (bytes_of t)))
+      → WhereTold c (λ t. IsStill LOG_START t → records ≡ records_of (segments_of LOG_START (bytes_of t)))
+      → WhereTold c (λ t. IsStill LOG_START t → IsLogOf log (segments_of LOG_START (bytes_of t)))
+      → WhereTold c (λ t. IsStill LOG_START t → WhereTold d (LogAtRest log))
       → HasRead pages s d indexes log records
-  image-read d log records opens recs log_of at_rest =
+  image-read d log records start opens recs log_of at_rest =
       let there = told-reads s c both in
       let same : Same s there.0 = same-reads s c both there.0 there.1 in
-      let still : IsStill there.0 = calm-log s there.0 same calm in
+      let still : IsStill LOG_START there.0 = calm-log s there.0 same calm in
       let formatted = front.formatted s is (calm-superblock s calm) in
       record {
         formatted = formatted.0;
         declared_is = formatted.1;
         directory = directory-there;
-        opens = subst (λ (x : Bytes). LogOpens ends (segments_of x)) same.bytes (opens there.0 there.1 still);
-        records_are = subst (λ (x : Bytes). records ≡ records_of (segments_of x)) same.bytes (recs there.0 there.1 still);
-        log_of = subst (λ (x : Bytes). IsLogOf log (segments_of x)) same.bytes (log_of there.0 there.1 still);
+        opens = subst (λ (x : Bytes). LogOpens ends (segments_of LOG_START x)) same.bytes (opens there.0 there.1 still);
+        records_are = subst (λ (x : Bytes). records ≡ records_of (segments_of LOG_START x)) same.bytes (recs there.0 there.1 still);
+        log_of = subst (λ (x : Bytes). IsLogOf log (segments_of LOG_START x)) same.bytes (log_of there.0 there.1 still);
+        log_start = start;
         at_rest = at_rest there.0 there.1 still;
       }
 
-  bad-log : (k : ℕ) → WhereTold c (λ t. IsStill t → IsBad ends (segments_of (bytes_of t)) k) → IsRefusal pages (BadLog k) (bytes_of s)
+  bad-log : (k : ℕ) → WhereTold c (λ t. IsStill LOG_START t → IsBad ends (segments_of LOG_START (bytes_of t)) k) → IsRefusal pages (BadLog k) (bytes_of s)
   bad-log k bad =
       let there = told-reads s c both in
       let same : Same s there.0 = same-reads s c both there.0 there.1 in (
         (front.formatted s is (calm-superblock s calm)).0,
         directory-there,
-        subst (λ (x : Bytes). IsBad ends (segments_of x) k) same.bytes (bad there.0 there.1 (calm-log s there.0 same calm)),
+        subst (λ (x : Bytes). IsBad ends (segments_of LOG_START x) k) same.bytes (bad there.0 there.1 (calm-log s there.0 same calm)),
       )
 
-  pub log-refused : (fault : LogFault) → WhereBad fault (λ number. WhereTold c (λ t. IsStill t → IsBad ends (segments_of (bytes_of t)) number)) → IsRefusal pages (opening_fault fault) (bytes_of s)
+  pub log-refused : (fault : LogFault) → WhereBad fault (λ number. WhereTold c (λ t. IsStill LOG_START t → IsBad ends (segments_of LOG_START (bytes_of t)) number)) → IsRefusal pages (opening_fault fault) (bytes_of s)
   log-refused log.Failed bad = tt
   log-refused (log.BadLog k) bad = bad-log k bad
   log-refused log.OutOfMemory bad = tt
@@ -174,9 +176,10 @@ opens-from device now indexes table log records pages clock_told table_is reads 
             directory = subst (λ (x : Bytes). HasNoComponent x) (sym same.bytes) has.directory;
             superblock_calm = λ i looked. same.settled i (calm i (inl (subst (λ (x : Bytes). IsLookedInSuperblock x i) same.bytes looked)));
             directory_calm = λ i gate. same.settled i (calm i (inr (inl gate)));
+            log_start = has.log_start;
             log_rest = has.at_rest u there.1;
-            log_of = subst (λ (x : Bytes). IsLogOf log (segments_of x)) (sym same.bytes) has.log_of;
-            log_opens = subst (λ (x : Bytes). LogOpens ends (segments_of x)) (sym same.bytes) has.opens;
+            log_of = subst (λ (x : Bytes). IsLogOf log (segments_of LOG_START x)) (sym same.bytes) has.log_of;
+            log_opens = subst (λ (x : Bytes). LogOpens ends (segments_of LOG_START x)) (sym same.bytes) has.opens;
             table_is = ap recovered same.bytes ∙ table_of;
           } in
           let recovers : Recovers device.pages table (bytes_of u) = record {

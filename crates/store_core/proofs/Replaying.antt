@@ -6,7 +6,7 @@ use Rattle.table_model.specs.Table.{Table}
 use Rattle.table_model.specs.Answers.{after_write}
 use Rattle.wal_log.specs.declared.records.Record.{Record}
 use Rattle.image_model.specs.Recovered.{write_of, replayed}
-use Rattle.store_machine.specs.Laws.Rests.{replayed-push}
+use Rattle.image_model.specs.Laws.Recovered.{replayed-push}
 
 pub replayed-next : (records : List Record) (i : ℕ) (r d : Record) (old new : Table) → i < length records → r ≡ get_or records i d → old ≡ replayed empty (take i records) → new ≡ after_write old (write_of r.op)
     → new ≡ replayed empty (take (i + 1) records)

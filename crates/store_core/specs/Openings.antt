@@ -7,6 +7,7 @@ use Rattle.wal_log.specs.Rules.{IsBad}
 use Rattle.image_model.specs.Superblock.{IsFormatted}
 use Rattle.image_model.specs.Directory.{HasNoComponent, IsBadSlot}
 use Rattle.image_model.specs.Opening.{ends, IsLookedAt}
+use Rattle.image_model.specs.declared.places.TheConstants.{LOG_START}
 use Rattle.store_machine.specs.Standing.{DeviceState}
 use Rattle.store_core.specs.declared.opening.OpenFault.{OpenFault}
 use Rattle.store_core.specs.declared.opening.OpenFault.TheVariants.{NotFormatted, BadSlot, BadLog, Fault, OutOfMemory}
@@ -16,7 +17,7 @@ use Rattle.store_core.specs.declared.opening.OpenFault.TheVariants.{NotFormatted
 abbrev pub IsRefusal : (pages : ℕ) → OpenFault → Bytes → Type 0
 IsRefusal pages NotFormatted bytes = IsFormatted pages bytes → ⊥
 IsRefusal pages (BadSlot n) bytes = IsFormatted pages bytes × IsBadSlot n bytes
-IsRefusal pages (BadLog k) bytes = IsFormatted pages bytes × HasNoComponent bytes × IsBad ends (segments_of bytes) k
+IsRefusal pages (BadLog k) bytes = IsFormatted pages bytes × HasNoComponent bytes × IsBad ends (segments_of LOG_START bytes) k
 IsRefusal pages Fault bytes = Unit {0}
 IsRefusal pages OutOfMemory bytes = Unit {0}
 

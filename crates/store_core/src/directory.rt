@@ -8,9 +8,10 @@ ghost use Rattle.store_core.specs.Openings.{HasFaulted};
 ghost use Rattle.store_core.specs.Read.{IsDirectoryRefusal, IsFirstOpen};
 
 use crate::opening::OpenFault;
+use comp_dir::{DIRECTORY_START, SLOT_BYTES, SLOTS};
 use dev_model::Device;
-use image_model::{DIRECTORY_START, SLOT_BYTES, SLOTS};
-use wal_log::{LOG_PAGES, OPEN};
+use image_model::LOG_PAGES;
+use wal_log::OPEN;
 
 // The bytes of a page of the device.
 const PAGE_BYTES: u64 = 4096;

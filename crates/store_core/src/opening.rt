@@ -18,9 +18,10 @@ use crate::store::Store;
 use crate::superblock::read_superblock;
 use dev_model::Device;
 use geo_base::{IndexSet, ItemList};
+use image_model::{LOG_PAGES, LOG_START};
 use std::alloc::{AllocError, Global};
 use thiserror::Error;
-use wal_log::{LOG_PAGES, Log, LogFault, LogOp, Record};
+use wal_log::{Log, LogFault, LogOp, Record};
 
 /// Why a device can't be opened.
 #[derive(Clone, Copy, Debug, PartialEq, Eq, Error)]
@@ -66,6 +67,7 @@ fn read_image<D: Device>(alloc: Global, device: &mut D) -> Result<Image, OpenFau
     requires pages { LOG_PAGES ≤ D.pages device.old }
     ensures read { IfOk result (λ image. WhereTold (D.story device.old) (λ s. IsCalmAt (IsLookedAt (bytes_of s)) s →
         HasRead (D.pages device.old) s (D.story device.new) image.indexes image.log image.records.items)) }
+    ensures start { IfOk result (λ image. image.log.start ≡ LOG_START) }
     ensures counted { IfOk result (λ image. IsCounted image.log) }
     ensures refused { IfErr result (λ fault. WhereTold (D.story device.old) (λ s. IsCalmAt (IsLookedAt (bytes_of s)) s →
         IsRefusal (D.pages device.old) fault (bytes_of s))) }
@@ -82,7 +84,7 @@ fn read_image<D: Device>(alloc: Global, device: &mut D) -> Result<Image, OpenFau
         return Err(fault);
     }
     // No index has a component yet.
-    match Log::read_all(device, &[0], alloc) {
+    match Log::read_all(device, LOG_START, &[0], alloc) {
         Ok((log, records)) => Ok(Image {
             indexes,
             log,

@@ -13,7 +13,8 @@ use crate::opening::OpenFault;
 use dev_model::Device;
 use device_format::superblock_bytes;
 use geo_base::IndexSet;
-use wal_log::{LOG_PAGES, OPEN};
+use image_model::LOG_PAGES;
+use wal_log::OPEN;
 
 // The gate is open, and these are the bytes behind it.
 fn is_spelled(bytes: &[u8; 16], indexes: IndexSet, pages: u32) -> bool

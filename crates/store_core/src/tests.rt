@@ -7,10 +7,11 @@ use crate::{OpenFault, Store};
 use dev_model::{Device, MemDevice, Torn};
 use device_format::format_dev;
 use geo_base::{IndexKind, IndexSet, Note, Point, Rect, Row};
+use image_model::LOG_PAGES;
 use std::alloc::Global;
 use std::test::Fail;
 use store_machine::{Refusal, WriteOp};
-use wal_log::{LOG_PAGES, LogOp};
+use wal_log::LogOp;
 
 // A format of zero bytes reads the superblock's gate, closes 512 slots and 4 headers, syncs, and opens a header and the
 // superblock by a write, a sync, a write and a sync each.

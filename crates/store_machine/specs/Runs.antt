@@ -6,6 +6,7 @@ use Rattle.dev_model.specs.declared.calls.DeviceCall.{DeviceCall}
 use Rattle.dev_model.specs.declared.calls.DeviceAct.TheVariants.{WriteAt, SyncAll}
 use Rattle.wal_log.specs.Places.{IsInLog}
 use Rattle.wal_log.specs.declared.places.TheConstants.{RECORD_BYTES}
+use Rattle.image_model.specs.declared.places.TheConstants.{LOG_START}
 use Rattle.store_machine.specs.Machine.{Machine, is_logged, after_event}
 use Rattle.store_machine.specs.Needs.{Needs}
 use Rattle.store_machine.specs.declared.events.Refusal.TheVariants.{Fault}
@@ -17,7 +18,7 @@ use Rattle.store_machine.specs.declared.events.Event.{Event}
 -- the record's gate, a sync.
 pub record IsLogWrite (clock : ℕ) (calls : List DeviceCall) : Type 0 where
   pub gate : ℕ
-  pub in_log : IsInLog gate (RECORD_BYTES + 1)
+  pub in_log : IsInLog LOG_START gate (RECORD_BYTES + 1)
   pub are : calls ≡ made_at (clock + 1) (WriteAt (gate + 1) RECORD_BYTES) ∷ made_at (clock + 2) SyncAll ∷ made_at (clock + 3) (WriteAt gate 1) ∷ made_at (clock + 4) SyncAll ∷ []
 
 -- the first of such calls

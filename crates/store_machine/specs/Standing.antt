@@ -7,12 +7,12 @@ use Rattle.table_model.specs.Table.{Table}
 use Rattle.wal_log.specs.Segments.{segments_of}
 use Rattle.wal_log.specs.Rules.{Opens as LogOpens, in_order}
 use Rattle.wal_log.specs.State.{IsAtRest as LogAtRest, IsCounted, IsLogOf, HasLast}
-use Rattle.wal_log.specs.declared.places.TheConstants.{LOG_PAGES}
 use Rattle.wal_log.specs.declared.log.Log.{Log}
 use Rattle.image_model.specs.Superblock.{IsFormatted, declared}
 use Rattle.image_model.specs.Directory.{HasNoComponent}
 use Rattle.image_model.specs.Opening.{ends, IsLookedAt, IsLookedInSuperblock, IsSlotGate}
 use Rattle.image_model.specs.Recovered.{recovered, Recovers}
+use Rattle.image_model.specs.declared.places.TheConstants.{LOG_START, LOG_PAGES}
 use Rattle.store_machine.specs.Machine.{Machine, Opening, at_opening, after_all, after_groups}
 use Rattle.store_machine.specs.Runs.{IsRun}
 use Rattle.store_machine.specs.Crash.{Keeps, attempted}
@@ -48,6 +48,7 @@ AreUpTo most (x ∷ xs) = (x ≤ most) × AreUpTo most xs
 -- what each call needs of a store, and leaves
 pub record IsReady (store : StoreState) : Type 0 where
   pub pages : LOG_PAGES ≤ store.device.pages
+  pub start : store.log.start ≡ LOG_START
   pub counted : IsCounted store.log
 
 -- the numbers of a store are those of the machine, whatever its device tells
@@ -64,15 +65,17 @@ pub record Has (store : StoreState) (m : Machine) : Type 0 where
   pub running : m.stopped ≡ None → m.unfinished ≡ None
 
 -- What a store has on its device while nothing has stopped it: all that an opening looks at is on the disk, the device is
--- formatted and has no component, the log is at rest and ends where the store's log does, and its records give the table.
+-- formatted and has no component, the log stands at its place in the format, is at rest and ends where the store's log does, and
+-- its records give the table.
 pub record IsAtRest (pages : ℕ) (log : Log) (table : Table) (s : Story) : Type 0 where
   pub formatted : IsFormatted pages (bytes_of s)
   pub directory : HasNoComponent (bytes_of s)
   pub superblock_calm : IsCalmAt (IsLookedInSuperblock (bytes_of s)) s
   pub directory_calm : IsCalmAt IsSlotGate s
+  pub log_start : log.start ≡ LOG_START
   pub log_rest : LogAtRest log s
-  pub log_of : IsLogOf log (segments_of (bytes_of s))
-  pub log_opens : LogOpens ends (segments_of (bytes_of s))
+  pub log_of : IsLogOf log (segments_of LOG_START (bytes_of s))
+  pub log_opens : LogOpens ends (segments_of LOG_START (bytes_of s))
   pub table_is : recovered (bytes_of s) ≡ table
 
 -- what is there at the opening, by the bytes as they were read then
@@ -82,7 +85,7 @@ pub record Begins (o : Opening) (pages : ℕ) (opening : Story) : Type 0 where
   pub recovers : Recovers pages o.table (bytes_of opening)
   pub declared_is : declared (bytes_of opening) ≡ o.declared
   pub generation : ℕ
-  pub last : HasLast generation o.next_lsn o.operations (in_order (segments_of (bytes_of opening)))
+  pub last : HasLast generation o.next_lsn o.operations (in_order (segments_of LOG_START (bytes_of opening)))
 
 -- What the device has told since the opening: its calls were those of the events, what is on it, and what each crash since
 -- then leaves.

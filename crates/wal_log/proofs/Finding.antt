@@ -21,24 +21,24 @@ use Rattle.wal_log.specs.declared.reading.Found.TheVariants.{Closed, Bad, Sound}
 use Rattle.wal_log.specs.Laws.Agreeing.{open_records-shut, open_records-open}
 
 -- what was on the disk is there after reads, and the bytes are the same
-module _ (s t : Story) (now : Option Story) (reads : ReadsLog s now) (told : now ≡ Some t) where
+module _ (log_start : ℕ) (s t : Story) (now : Option Story) (reads : ReadsLog log_start s now) (told : now ≡ Some t) where
   same_story : after s reads.calls ≡ t
   same_story = same_Some (after s reads.calls) t (sym reads.told ∙ told)
 
   pub bytes_of-after : bytes_of t ≡ bytes_of s
-  bytes_of-after = ap bytes_of (sym same_story) ∙ bytes_of-reads IsInLog s reads.calls reads.reads
+  bytes_of-after = ap bytes_of (sym same_story) ∙ bytes_of-reads (IsInLog log_start) s reads.calls reads.reads
 
   settled-after : (i : ℕ) → IsSettled s.past i → IsSettled t.past i
-  settled-after i settled = subst (λ (u : Story). IsSettled u.past i) same_story (IsSettled-reads IsInLog s reads.calls i reads.reads settled)
+  settled-after i settled = subst (λ (u : Story). IsSettled u.past i) same_story (IsSettled-reads (IsInLog log_start) s reads.calls i reads.reads settled)
 
-  pub IsSegmentStill-after : (k : ℕ) → IsSegmentStill k s → IsSegmentStill k t
-  IsSegmentStill-after k still i looked = settled-after i (still i (subst (λ (b : Bytes). IsLooked k b i) bytes_of-after looked))
+  pub IsSegmentStill-after : (k : ℕ) → IsSegmentStill log_start k s → IsSegmentStill log_start k t
+  IsSegmentStill-after k still i looked = settled-after i (still i (subst (λ (b : Bytes). IsLooked log_start k b i) bytes_of-after looked))
 
-  pub IsStill-after : IsStill s → IsStill t
+  pub IsStill-after : IsStill log_start s → IsStill log_start t
   IsStill-after still k lt = IsSegmentStill-after k (still k lt)
 
-  pub IsOpenStill-after : (k : ℕ) → IsOpenStill k s → IsOpenStill k t
-  IsOpenStill-after k still = record { started = ap (λ (b : Bytes). b (segment_start k)) bytes_of-after ∙ still.started; still = IsSegmentStill-after k still.still }
+  pub IsOpenStill-after : (k : ℕ) → IsOpenStill log_start k s → IsOpenStill log_start k t
+  IsOpenStill-after k still = record { started = ap (λ (b : Bytes). b (segment_start log_start k)) bytes_of-after ∙ still.started; still = IsSegmentStill-after k still.still }
 
   pub IsPlaceStill-after : (at : ℕ) → IsPlaceStill at s → IsPlaceStill at t
   IsPlaceStill-after at still = record {
@@ -47,10 +47,10 @@ module _ (s t : Story) (now : Option Story) (reads : ReadsLog s now) (told : now
   }
 
 -- what was found after reads alone stands there
-pub found-at : (s : Story) (mid : Option Story) (at lsn : ℕ) (f : Found) → ReadsLog s mid → WhereTold mid (λ t. IsPlaceStill at t → IsFound at lsn (bytes_of t) f) → IsPlaceStill at s → IsFound at lsn (bytes_of s) f
-found-at s mid at lsn f reads found still =
+pub found-at : (log_start : ℕ) (s : Story) (mid : Option Story) (at lsn : ℕ) (f : Found) → ReadsLog log_start s mid → WhereTold mid (λ t. IsPlaceStill at t → IsFound at lsn (bytes_of t) f) → IsPlaceStill at s → IsFound at lsn (bytes_of s) f
+found-at log_start s mid at lsn f reads found still =
     let t : Story = after s reads.calls in
-    subst (λ (b : Bytes). IsFound at lsn b f) (bytes_of-after s t mid reads reads.told) (found t reads.told (IsPlaceStill-after s t mid reads reads.told at still))
+    subst (λ (b : Bytes). IsFound at lsn b f) (bytes_of-after log_start s t mid reads reads.told) (found t reads.told (IsPlaceStill-after log_start s t mid reads reads.told at still))
 
 -- what a window has of a place
 module _ (s : Story) (start at place : ℕ) (window : List ℕ) (is : start + at ≡ place) (width : length window ≡ 4096) (within : at + 96 ≤ 4096) (still : IsPlaceStill place s) (read : IsReadFrom start window s) where
@@ -77,11 +77,11 @@ module _ (s : Story) (start at place : ℕ) (window : List ℕ) (is : start + at
   found-in lsn (Sound r) sound = (sym place-gate ∙ sound.0, subst (IsRecord lsn) (place-body sound.0) sound.1, sound.2 ∙ ap record_of (place-body sound.0))
 
 -- the next place in the window
-pub holds-next : (k place : ℕ) (window : List ℕ) (s : Story) → IsReadFrom (window_start k place) window s → HoldsPlaces k (place + 1) window s
-holds-next k place window s read inside = subst (λ (at : ℕ). IsReadFrom at window s) (same_window k place inside) read
+pub holds-next : (log_start k place : ℕ) (window : List ℕ) (s : Story) → IsReadFrom (window_start log_start k place) window s → HoldsPlaces log_start k (place + 1) window s
+holds-next log_start k place window s read inside = subst (λ (at : ℕ). IsReadFrom at window s) (same_window k place inside) read
   where
-    same_window : (k place : ℕ) → (place + 1) % 42 ≢ 0 → window_start k place ≡ window_start k (place + 1)
-    same_window k place inside = ap (record_start k) (same_start place inside)
+    same_window : (k place : ℕ) → (place + 1) % 42 ≢ 0 → window_start log_start k place ≡ window_start log_start k (place + 1)
+    same_window k place inside = ap (record_start log_start k) (same_start place inside)
       where
         same_start : (place : ℕ) → (place + 1) % 42 ≢ 0 → place - place % 42 ≡ place + 1 - (place + 1) % 42
         same_start place inside = grind (arith, inside)
@@ -91,25 +91,25 @@ pub slice-is : (at : ℕ) (window : List ℕ) → take (at + 96 - (at + 1)) (dro
 slice-is at window = let e : at + 96 - (at + 1) ≡ 95 = omega arith in ap (λ (n : ℕ). take n (drop (at + 1) window)) e
 
 -- where a place stands in its window
-pub place-in : (k place : ℕ) → window_start k place + 96 * (place % 42) ≡ record_start k place
-place-in k place = omega arith
+pub place-in : (log_start k place : ℕ) → window_start log_start k place + 96 * (place % 42) ≡ record_start log_start k place
+place-in log_start k place = omega arith
 
-module _ (first place k : ℕ) (bytes : Bytes) (before now : List Record) (few : place ≤ 2048) (read : HasReadSome first place k bytes before now) where
+module _ (log_start first place k : ℕ) (bytes : Bytes) (before now : List Record) (few : place ≤ 2048) (read : HasReadSome log_start first place k bytes before now) where
   abbrev here : List ℕ
-  here = part (record_start k place + 1) 95 bytes
+  here = part (record_start log_start k place + 1) 95 bytes
 
-  goes_on : bytes (record_start k place) ≡ 165 → segment_records k bytes ≡ read.front ++ here ∷ open_records (2049 - (place + 1)) (record_start k (place + 1)) bytes
+  goes_on : bytes (record_start log_start k place) ≡ 165 → segment_records log_start k bytes ≡ read.front ++ here ∷ open_records (2049 - (place + 1)) (record_start log_start k (place + 1)) bytes
   goes_on is =
       let places : 2049 - place ≡ suc (2049 - (place + 1)) = omega arith in
-      let next : record_start k place + 96 ≡ record_start k (place + 1) = omega arith in
+      let next : record_start log_start k place + 96 ≡ record_start log_start k (place + 1) = omega arith in
       read.rest ∙ ap (λ (l : List (List ℕ)). read.front ++ l)
-      (ap (λ (n : ℕ). open_records n (record_start k place) bytes) places ∙ open_records-open (2049 - (place + 1)) (record_start k place) bytes is
+      (ap (λ (n : ℕ). open_records n (record_start log_start k place) bytes) places ∙ open_records-open (2049 - (place + 1)) (record_start log_start k place) bytes is
       ∙ ap (λ (n : ℕ). here ∷ open_records (2049 - (place + 1)) n bytes) next)
 
   -- a closed gate ends the walk
-  pub read-all : bytes (record_start k place) ≢ 165 → HasReadAll first place (segment_records k bytes) before now
+  pub read-all : bytes (record_start log_start k place) ≢ 165 → HasReadAll first place (segment_records log_start k bytes) before now
   read-all shut =
-      let all : segment_records k bytes ≡ read.front = read.rest ∙ ap (λ (l : List (List ℕ)). read.front ++ l) (open_records-shut (2049 - place) (record_start k place) bytes shut) ∙ append-nil read.front in
+      let all : segment_records log_start k bytes ≡ read.front = read.rest ∙ ap (λ (l : List (List ℕ)). read.front ++ l) (open_records-shut (2049 - place) (record_start log_start k place) bytes shut) ∙ append-nil read.front in
       record {
         counts = ap length all ∙ read.counts;
         sound = record { few = omega (arith, ap length all, read.counts); lawful = subst (AreRecords first) (sym all) read.lawful };
@@ -117,18 +117,18 @@ module _ (first place k : ℕ) (bytes : Bytes) (before now : List Record) (few :
       }
 
   -- bytes that are no record end it too
-  pub read-bad : bytes (record_start k place) ≡ 165 → (IsRecord (first + place) here → ⊥) → HasRecords first (segment_records k bytes) → ⊥
+  pub read-bad : bytes (record_start log_start k place) ≡ 165 → (IsRecord (first + place) here → ⊥) → HasRecords first (segment_records log_start k bytes) → ⊥
   read-bad is bad sound =
-      let all : segment_records k bytes ≡ read.front ++ here ∷ open_records (2049 - (place + 1)) (record_start k (place + 1)) bytes = goes_on is in
-      let within : place < length (segment_records k bytes) = omega (arith, ap length all, length-append read.front (here ∷ open_records (2049 - (place + 1)) (record_start k (place + 1)) bytes), read.counts) in
-      bad (subst (IsRecord (first + place)) (ap (λ (l : List (List ℕ)). get_or l place []) all ∙ get_or_at read.front here (open_records (2049 - (place + 1)) (record_start k (place + 1)) bytes) [] place read.counts) (sound.lawful place within))
+      let all : segment_records log_start k bytes ≡ read.front ++ here ∷ open_records (2049 - (place + 1)) (record_start log_start k (place + 1)) bytes = goes_on is in
+      let within : place < length (segment_records log_start k bytes) = omega (arith, ap length all, length-append read.front (here ∷ open_records (2049 - (place + 1)) (record_start log_start k (place + 1)) bytes), read.counts) in
+      bad (subst (IsRecord (first + place)) (ap (λ (l : List (List ℕ)). get_or l place []) all ∙ get_or_at read.front here (open_records (2049 - (place + 1)) (record_start log_start k (place + 1)) bytes) [] place read.counts) (sound.lawful place within))
 
   -- one record more
-  pub read-more : (r : Record) (later : List Record) → bytes (record_start k place) ≡ 165 → IsRecord (first + place) here → r ≡ record_of here → later ≡ now ++ r ∷ [] → HasReadSome first (place + 1) k bytes before later
+  pub read-more : (r : Record) (later : List Record) → bytes (record_start log_start k place) ≡ 165 → IsRecord (first + place) here → r ≡ record_of here → later ≡ now ++ r ∷ [] → HasReadSome log_start first (place + 1) k bytes before later
   read-more r later is lawful same pushed = record {
     front = read.front ++ here ∷ [];
     counts = length_push read.front here ∙ ap (λ (n : ℕ). n + 1) read.counts;
-    rest = goes_on is ∙ sym (append_assoc read.front (here ∷ []) (open_records (2049 - (place + 1)) (record_start k (place + 1)) bytes));
+    rest = goes_on is ∙ sym (append_assoc read.front (here ∷ []) (open_records (2049 - (place + 1)) (record_start log_start k (place + 1)) bytes));
     lawful = λ i lt. ⊎_elim
         (λ old. subst (IsRecord (first + i)) (sym (get_or_append_left read.front (here ∷ []) [] i old)) (read.lawful i old))
         (λ new. subst (λ (n : ℕ). IsRecord (first + n) (get_or (read.front ++ here ∷ []) n [])) (sym new)
@@ -145,23 +145,23 @@ module _ (first place k : ℕ) (bytes : Bytes) (before now : List Record) (few :
           halves i n lt = grind arith
 
 -- what is looked at of the next place is on the disk
-pub place-still : (first place k : ℕ) (s : Story) (before now : List Record) → place ≤ 2048 → HasReadSome first place k (bytes_of s) before now → IsOpenStill k s → IsPlaceStill (record_start k place) s
-place-still first place k s before now few read still =
-    let some : place ≤ length (segment_records k (bytes_of s)) = omega (arith, ap length read.rest, length-append read.front (open_records (2049 - place) (record_start k place) (bytes_of s)), read.counts) in
+pub place-still : (log_start first place k : ℕ) (s : Story) (before now : List Record) → place ≤ 2048 → HasReadSome log_start first place k (bytes_of s) before now → IsOpenStill log_start k s → IsPlaceStill (record_start log_start k place) s
+place-still log_start first place k s before now few read still =
+    let some : place ≤ length (segment_records log_start k (bytes_of s)) = omega (arith, ap length read.rest, length-append read.front (open_records (2049 - place) (record_start log_start k place) (bytes_of s)), read.counts) in
     record {
-      gate = still.still (record_start k place) (inr (still.started, omega arith, omega (arith, some)));
+      gate = still.still (record_start log_start k place) (inr (still.started, omega arith, omega (arith, some)));
       body = λ is i low high.
-          let all : segment_records k (bytes_of s) ≡ read.front ++ here first place k (bytes_of s) before now few read ∷ open_records (2049 - (place + 1)) (record_start k (place + 1)) (bytes_of s) = goes_on first place k (bytes_of s) before now few read is in
-          let more : place + 1 ≤ length (segment_records k (bytes_of s)) =
-          omega (arith, ap length all, length-append read.front (here first place k (bytes_of s) before now few read ∷ open_records (2049 - (place + 1)) (record_start k (place + 1)) (bytes_of s)), read.counts) in
+          let all : segment_records log_start k (bytes_of s) ≡ read.front ++ here log_start first place k (bytes_of s) before now few read ∷ open_records (2049 - (place + 1)) (record_start log_start k (place + 1)) (bytes_of s) = goes_on log_start first place k (bytes_of s) before now few read is in
+          let more : place + 1 ≤ length (segment_records log_start k (bytes_of s)) =
+          omega (arith, ap length all, length-append read.front (here log_start first place k (bytes_of s) before now few read ∷ open_records (2049 - (place + 1)) (record_start log_start k (place + 1)) (bytes_of s)), read.counts) in
           still.still i (inr (still.started, omega (arith, low), omega (arith, high, more)));
     }
 
 -- nothing is read yet
-pub read-none : (first k : ℕ) (bytes : Bytes) (before : List Record) → HasReadSome first 0 k bytes before before
+pub read-none : (log_start first k : ℕ) (bytes : Bytes) (before : List Record) → HasReadSome log_start first 0 k bytes before before
 unfolding segment_records
-read-none first k bytes before =
-    let start : segment_start k + 64 ≡ record_start k 0 = omega arith in
+read-none log_start first k bytes before =
+    let start : segment_start log_start k + 64 ≡ record_start log_start k 0 = omega arith in
     record {
       front = [];
       counts = refl;
@@ -171,9 +171,9 @@ read-none first k bytes before =
     }
 
 -- all places are open: too many records
-pub read-too_many : (first place k : ℕ) (bytes : Bytes) (before now : List Record) → place ≡ 2049 → HasReadSome first place k bytes before now → HasRecords first (segment_records k bytes) → ⊥
-read-too_many first place k bytes before now all read sound =
-    omega (arith, ap length read.rest, length-append read.front (open_records (2049 - place) (record_start k place) bytes), read.counts, sound.few)
+pub read-too_many : (log_start first place k : ℕ) (bytes : Bytes) (before now : List Record) → place ≡ 2049 → HasReadSome log_start first place k bytes before now → HasRecords first (segment_records log_start k bytes) → ⊥
+read-too_many log_start first place k bytes before now all read sound =
+    omega (arith, ap length read.rest, length-append read.front (open_records (2049 - place) (record_start log_start k place) bytes), read.counts, sound.few)
 
 -- the number after that of a record
 pub below-more : (first place : ℕ) (r : Record) → HasNumber (first + place) (Sound r) → first + (place + 1) ≤ 2 ^ 62

@@ -2,6 +2,7 @@ pub mod Finding
 pub mod Growing
 pub mod HeadsFound
 pub mod Keeping
+pub mod Later
 pub mod LogFound
 pub mod Ordering
 pub mod Planned

@@ -236,23 +236,24 @@ module _ (log : Log) (segments : Segments) (four : length segments ≡ 4) (below
   all-below = without-all (λ m. generation_of m < generation_in new.header) k k 0 segments (omega arith)
       (all-weaker (IsAmong log.generation) (λ n. n.number ≢ k → generation_of n < generation_in new.header) (in_order segments) (λ n is unlike. omega (arith, is.0, is_next)) are)
 
-  -- what is left when the next segment is closed
-  pub closed-left : (ends : List ℕ) → AreSound ends None (in_order segments) → AreSound ends None left × HasLast log.generation log.next_lsn log.records left
-  closed-left ends sound = by_case (get_or segments k None) refl
+  -- the next segment is closed, or it is the oldest
+  pub closed-order : (in_order segments ≡ left) ⊎ ((x : Segment) × (generation_in x.header + 3 ≡ log.generation) × (in_order segments ≡ record { number = k; segment = x } ∷ left))
+  closed-order = by_case (get_or segments k None) refl
     where
-      by_case : (o : Option Segment) → get_or segments k None ≡ o → AreSound ends None left × HasLast log.generation log.next_lsn log.records left
-      by_case None is =
-          let same : in_order segments ≡ left = ap in_order (sym (set-same segments k is)) in
-          (subst (AreSound ends None) same sound, subst (HasLast log.generation log.next_lsn log.records) same of.newest_is)
+      by_case : (o : Option Segment) → get_or segments k None ≡ o
+          → (in_order segments ≡ left) ⊎ ((x : Segment) × (generation_in x.header + 3 ≡ log.generation) × (in_order segments ≡ record { number = k; segment = x } ∷ left))
+      by_case None is = inl (ap in_order (sym (set-same segments k is)))
       by_case (Some x) is =
           let x_is : IsAmong log.generation (record { number = k; segment = x }) = in-order (IsAmong log.generation) k k 0 segments x (omega arith) is are in
           let old : generation_in x.header + 3 ≡ log.generation = oldest (generation_in x.header) log.generation x_is.0 x_is.1 x_is.2 in
-          let order : in_order segments ≡ record { number = k; segment = x } ∷ left =
-          oldest-first k k 0 segments x (omega arith) is
-          (without-all (λ m. generation_in x.header < generation_of m) k k 0 segments (omega arith)
-          (all-weaker (IsAmong log.generation) (λ n. n.number ≢ k → generation_in x.header < generation_of n) (in_order segments)
-          (λ n it unlike. younger (generation_in x.header) (generation_of n) log.generation n.number old it.0 it.1 it.2 unlike) are)) in
-          front-leaves ends (record { number = k; segment = x }) left log.generation log.next_lsn log.records old (subst (AreSound ends None) order sound) (subst (HasLast log.generation log.next_lsn log.records) order of.newest_is)
+          inr (
+            x,
+            old,
+            oldest-first k k 0 segments x (omega arith) is
+                (without-all (λ m. generation_in x.header < generation_of m) k k 0 segments (omega arith)
+                (all-weaker (IsAmong log.generation) (λ n. n.number ≢ k → generation_in x.header < generation_of n) (in_order segments)
+                (λ n it unlike. younger (generation_in x.header) (generation_of n) log.generation n.number old it.0 it.1 it.2 unlike) are)),
+          )
         where
           oldest : (g last : ℕ) → g ≤ last → last ≤ g + 3 → g % 4 ≡ (last + 1) % 4 → g + 3 ≡ last
           oldest g last low high same = omega (arith, low, high, same)
@@ -262,6 +263,16 @@ module _ (log : Log) (segments : Segments) (four : length segments ≡ 4) (below
             where
               sides : (g m : ℕ) → g ≤ m → (g ≡ m) ⊎ (g < m)
               sides g m le = grind arith
+
+  -- what is left when the next segment is closed
+  pub closed-left : (ends : List ℕ) → AreSound ends None (in_order segments) → AreSound ends None left × HasLast log.generation log.next_lsn log.records left
+  closed-left ends sound = by_case closed-order
+    where
+      by_case : (in_order segments ≡ left) ⊎ ((x : Segment) × (generation_in x.header + 3 ≡ log.generation) × (in_order segments ≡ record { number = k; segment = x } ∷ left))
+          → AreSound ends None left × HasLast log.generation log.next_lsn log.records left
+      by_case (inl same) = (subst (AreSound ends None) same sound, subst (HasLast log.generation log.next_lsn log.records) same of.newest_is)
+      by_case (inr oldest) =
+          front-leaves ends (record { number = k; segment = oldest.0 }) left log.generation log.next_lsn log.records oldest.1 (subst (AreSound ends None) oldest.2 sound) (subst (HasLast log.generation log.next_lsn log.records) oldest.2 of.newest_is)
 
   order : in_order (set segments k (Some new)) ≡ left ++ record { number = k; segment = new } ∷ []
   order = newest-last k k 0 segments new (omega arith) (omega (arith, below, four)) all-below

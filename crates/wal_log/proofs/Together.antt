@@ -29,14 +29,14 @@ records-wide first (body ∷ bodies) are = (
       subst (λ (n : ℕ). IsRecord n (get_or bodies i [])) number (are (suc i) (omega (arith, lt)))),
 )
 
-pub all-or-none : (log : Log) (s : Story) (rs : List Record) → IsAtRest log s → IsLogOf log (segments_of (bytes_of s)) → 0 < length rs → log.records + length rs ≤ 2048
-    → AreRecords log.next_lsn (map record_bytes rs) → map record_of (map record_bytes rs) ≡ rs → (ends : List ℕ) → Opens ends (segments_of (bytes_of s))
-    → EachMoment (clock_of s) (after s (append_all_calls log rs)) (λ _ image. HasRecordsOrAll ends (records_of (segments_of (bytes_of s))) rs (segments_of image))
+pub all-or-none : (log : Log) (s : Story) (rs : List Record) → IsAtRest log s → IsLogOf log (segments_of log.start (bytes_of s)) → 0 < length rs → log.records + length rs ≤ 2048
+    → AreRecords log.next_lsn (map record_bytes rs) → map record_of (map record_bytes rs) ≡ rs → (ends : List ℕ) → Opens ends (segments_of log.start (bytes_of s))
+    → EachMoment (clock_of s) (after s (append_all_calls log rs)) (λ _ image. HasRecordsOrAll ends (records_of (segments_of log.start (bytes_of s))) rs (segments_of log.start image))
 all-or-none log s rs rest of some room are back ends opens =
     let bodies : List (List ℕ) = map record_bytes rs in
     let fits : log.records + length bodies ≤ 2048 = omega (arith, room, length-map rs record_bytes) in
-    let all : Leaves s (append_all_calls log rs) (λ image. IsBeforeOrAfterAll (newest log) bodies (segments_of (bytes_of s)) (segments_of image)) =
+    let all : Leaves s (append_all_calls log rs) (λ image. IsBeforeOrAfterAll (newest log) bodies (segments_of log.start (bytes_of s)) (segments_of log.start image)) =
     append-all s log rest (mod_below log.generation 4 (omega arith)) rs room (records-wide log.next_lsn bodies are) some in
-    EachMoment-weaker (clock_of s) (after s (append_all_calls log rs)) (λ _ image. IsBeforeOrAfterAll (newest log) bodies (segments_of (bytes_of s)) (segments_of image)) _
-    (λ m image either. recovers-append log (segments_of (bytes_of s)) (omega arith) bodies fits are of ends rs (segments_of image) back opens either)
+    EachMoment-weaker (clock_of s) (after s (append_all_calls log rs)) (λ _ image. IsBeforeOrAfterAll (newest log) bodies (segments_of log.start (bytes_of s)) (segments_of log.start image)) _
+    (λ m image either. recovers-append log (segments_of log.start (bytes_of s)) (omega arith) bodies fits are of ends rs (segments_of log.start image) back opens either)
     (leaves-moments s (append_all_calls log rs) _ all)

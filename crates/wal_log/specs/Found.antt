@@ -22,9 +22,9 @@ pub record IsPlaceStill (at : ℕ) (s : Story) : Type 0 where
   pub body : bytes_of s at ≡ OPEN → (i : ℕ) → at < i → i < at + RECORD_BYTES → IsSettled s.past i
 
 -- a segment is open, and all that is looked at to read it is on the disk
-pub record IsOpenStill (k : ℕ) (s : Story) : Type 0 where
-  pub started : bytes_of s (segment_start k) ≡ OPEN
-  pub still : IsSegmentStill k s
+pub record IsOpenStill (log_start k : ℕ) (s : Story) : Type 0 where
+  pub started : bytes_of s (segment_start log_start k) ≡ OPEN
+  pub still : IsSegmentStill log_start k s
 
 abbrev pub IsFound : ℕ → ℕ → Bytes → Found → Type 0
 IsFound at lsn bytes Closed = bytes at ≢ OPEN
@@ -38,12 +38,12 @@ pub record HasReadAll (first count : ℕ) (records : List (List ℕ)) (before no
   pub added : now ≡ before ++ map record_of records
 
 -- where the window begins that has a place
-abbrev pub window_start : ℕ → ℕ → ℕ
-window_start k place = record_start k (place - place % WINDOW_RECORDS)
+abbrev pub window_start : (log_start k place : ℕ) → ℕ
+window_start log_start k place = record_start log_start k (place - place % WINDOW_RECORDS)
 
 -- The window has what stands at a place and behind it, where that isn't the first place of the next window.
-abbrev pub HoldsPlaces : ℕ → ℕ → List ℕ → Story → Type 0
-HoldsPlaces k place window s = place % WINDOW_RECORDS ≢ 0 → IsReadFrom (window_start k place) window s
+abbrev pub HoldsPlaces : (log_start k place : ℕ) → List ℕ → Story → Type 0
+HoldsPlaces log_start k place window s = place % WINDOW_RECORDS ≢ 0 → IsReadFrom (window_start log_start k place) window s
 
 -- what is found in a window, at a place in it
 abbrev pub IsFoundIn : ℕ → ℕ → List ℕ → Found → Type 0
@@ -79,9 +79,9 @@ pub record HasCauseOfFault {T : Type 0} (before now : ℕ) (result : Result T Lo
   pub failed : IfErr result (FaultRose before now)
 
 -- so many records of a segment were read and put last, and all of them are lawful
-pub record HasReadSome (first place k : ℕ) (bytes : Bytes) (before now : List Record) : Type 0 where
+pub record HasReadSome (log_start first place k : ℕ) (bytes : Bytes) (before now : List Record) : Type 0 where
   pub front : List (List ℕ)
   pub counts : length front ≡ place
-  pub rest : segment_records k bytes ≡ front ++ open_records (MOST_RECORDS + 1 - place) (record_start k place) bytes
+  pub rest : segment_records log_start k bytes ≡ front ++ open_records (MOST_RECORDS + 1 - place) (record_start log_start k place) bytes
   pub lawful : AreRecords first front
   pub added : now ≡ before ++ map record_of front

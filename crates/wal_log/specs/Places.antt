@@ -1,22 +1,26 @@
--- Where the segments of the log and their records stand on the device.
-use Rattle.std.specs.Prelude.{ℕ, ◌+◌, ◌*◌, ◌≤◌, Option}
+-- Where the segments of the log and their records stand on the device. The log begins at any byte, its place.
+use Rattle.std.specs.Prelude.{ℕ, ◌+◌, ◌*◌, ◌<◌, ◌≤◌, ◌^◌, Option}
 use Rattle.dev_model.specs.Story.{Story}
 use Rattle.dev_model.specs.Moments.{ReadsWithin}
-use Rattle.wal_log.specs.declared.places.TheConstants.{LOG_START, SEGMENT_BYTES, HEADER_BYTES, RECORD_BYTES}
+use Rattle.wal_log.specs.declared.places.TheConstants.{LOG_BYTES, SEGMENT_BYTES, HEADER_BYTES, RECORD_BYTES}
 
 -- the gate of a segment's header
-abbrev pub segment_start : ℕ → ℕ
-segment_start segment = LOG_START + SEGMENT_BYTES * segment
+abbrev pub segment_start : (log_start segment : ℕ) → ℕ
+segment_start log_start segment = log_start + SEGMENT_BYTES * segment
 
 -- the gate of a record
-abbrev pub record_start : ℕ → ℕ → ℕ
-record_start segment place = segment_start segment + HEADER_BYTES + RECORD_BYTES * place
+abbrev pub record_start : (log_start segment place : ℕ) → ℕ
+record_start log_start segment place = segment_start log_start segment + HEADER_BYTES + RECORD_BYTES * place
 
 -- a range of the log's bytes
-pub record IsInLog (at count : ℕ) : Type 0 where
-  pub from : LOG_START ≤ at
-  pub to : at + count ≤ LOG_START + SEGMENT_BYTES * 4
+pub record IsInLog (log_start at count : ℕ) : Type 0 where
+  pub from : log_start ≤ at
+  pub to : at + count ≤ log_start + LOG_BYTES
 
 -- The story went on by reads of the log's bytes alone.
-abbrev pub ReadsLog : Story → Option Story → Type 0
-ReadsLog s now = ReadsWithin IsInLog s now
+abbrev pub ReadsLog : (log_start : ℕ) → Story → Option Story → Type 0
+ReadsLog log_start s now = ReadsWithin (IsInLog log_start) s now
+
+-- the four segments of the log end on a device of so many pages, and their places fit 64 bits
+abbrev pub EndsOnDevice : (log_start pages : ℕ) → Type 0
+EndsOnDevice log_start pages = (log_start + LOG_BYTES ≤ pages * 4096) × (log_start + LOG_BYTES < 2 ^ 64)

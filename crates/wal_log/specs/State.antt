@@ -11,12 +11,12 @@ use Rattle.wal_log.specs.declared.log.Log.{Log}
 use Rattle.wal_log.specs.declared.records.Record.{Record}
 
 -- all that is looked at to read a segment is on the disk
-abbrev pub IsSegmentStill : ℕ → Story → Type 0
-IsSegmentStill k s = IsCalmAt (IsLooked k (bytes_of s)) s
+abbrev pub IsSegmentStill : (log_start k : ℕ) → Story → Type 0
+IsSegmentStill log_start k s = IsCalmAt (IsLooked log_start k (bytes_of s)) s
 
 -- all that is looked at to read the log is on the disk
-abbrev pub IsStill : Story → Type 0
-IsStill s = (k : ℕ) → k < 4 → IsSegmentStill k s
+abbrev pub IsStill : (log_start : ℕ) → Story → Type 0
+IsStill log_start s = (k : ℕ) → k < 4 → IsSegmentStill log_start k s
 
 -- the segment that takes the next record
 abbrev pub newest : Log → ℕ
@@ -35,10 +35,10 @@ pub record IsLogOf (log : Log) (segments : Segments) : Type 0 where
 
 -- The log has so many records in its newest segment, a closed gate stands behind them, and all is on the disk.
 pub record IsAtRest (log : Log) (s : Story) : Type 0 where
-  pub started : bytes_of s (segment_start (newest log)) ≡ OPEN
-  pub counts : length (segment_records (newest log) (bytes_of s)) ≡ log.records
-  pub heads : (k : ℕ) → k < 4 → get_or log.open_headers k false ≡ (bytes_of s (segment_start k) == OPEN)
-  pub still : IsStill s
+  pub started : bytes_of s (segment_start log.start (newest log)) ≡ OPEN
+  pub counts : length (segment_records log.start (newest log) (bytes_of s)) ≡ log.records
+  pub heads : (k : ℕ) → k < 4 → get_or log.open_headers k false ≡ (bytes_of s (segment_start log.start k) == OPEN)
+  pub still : IsStill log.start s
 
 -- the numbers of a log, wherever its bytes are
 pub record IsCounted (log : Log) : Type 0 where
@@ -50,7 +50,7 @@ pub record IsCounted (log : Log) : Type 0 where
 -- open. With that gate all of them stand, and none before.
 abbrev pub append_all_calls : Log → List Record → Calls
 append_all_calls log rs =
-    let gate = record_start (newest log) log.records in
+    let gate = record_start log.start (newest log) log.records in
     Write (gate + 1) (behind_gate (map record_bytes rs)) ∷ Sync ∷ Write gate (OPEN ∷ []) ∷ Sync ∷ []
 
 -- a record with the closed gate behind it, and then its own gate, open
@@ -58,21 +58,21 @@ abbrev pub append_calls : Log → Record → Calls
 append_calls log r = append_all_calls log (r ∷ [])
 
 -- the gate of a header, closed
-abbrev pub close_calls : ℕ → Calls
-close_calls k = Write (segment_start k) (0 ∷ []) ∷ Sync ∷ []
+abbrev pub close_calls : (log_start k : ℕ) → Calls
+close_calls log_start k = Write (segment_start log_start k) (0 ∷ []) ∷ Sync ∷ []
 
 -- Of a header that is open alone. What is closed isn't written closed again.
-abbrev pub close_calls_if : Bool → ℕ → Calls
-close_calls_if is_open k = if is_open then close_calls k else []
+abbrev pub close_calls_if : (log_start : ℕ) → Bool → ℕ → Calls
+close_calls_if log_start is_open k = if is_open then close_calls log_start k else []
 
 -- how many calls that is
 abbrev pub close_count : Bool → ℕ
 close_count is_open = if is_open then 2 else 0
 
 -- a header with the closed gate of its segment's first record, and then its own gate, open
-abbrev pub start_calls : (k generation first_lsn : ℕ) → Calls
-start_calls k generation first_lsn =
-    Write (segment_start k + 1) (header_bytes generation first_lsn ++ 0 ∷ []) ∷ Sync ∷ Write (segment_start k) (OPEN ∷ []) ∷ Sync ∷ []
+abbrev pub start_calls : (log_start k generation first_lsn : ℕ) → Calls
+start_calls log_start k generation first_lsn =
+    Write (segment_start log_start k + 1) (header_bytes generation first_lsn ++ 0 ∷ []) ∷ Sync ∷ Write (segment_start log_start k) (OPEN ∷ []) ∷ Sync ∷ []
 
 -- the segment that comes after the newest
 abbrev pub following : Log → ℕ
@@ -80,8 +80,8 @@ following log = (log.generation + 1) % 4
 
 abbrev pub turn_calls : Log → Calls
 turn_calls log =
-    close_calls_if (get_or log.open_headers (following log) false) (following log)
-    ++ start_calls (following log) (log.generation + 1) log.next_lsn
+    close_calls_if log.start (get_or log.open_headers (following log) false) (following log)
+    ++ start_calls log.start (following log) (log.generation + 1) log.next_lsn
 
 -- the old segments, or these with all of these records more in one of them
 abbrev pub IsBeforeOrAfterAll : ℕ → List (List ℕ) → Segments → Segments → Type 0

@@ -3,23 +3,25 @@ ghost use Rattle.std.specs.Prelude.{◌≡◌, ◌+◌, ◌-◌, ◌++◌, ◌�
 ghost use Rattle.dev_model.specs.Counts.{HasCause};
 ghost use Rattle.dev_model.specs.Story.{WhereTold, Did, Ticks, bytes_of};
 ghost use Rattle.dev_model.specs.Moments.{LeavesOnly, WritesWithin};
-ghost use Rattle.wal_log.specs.Places.{segment_start, record_start};
+ghost use Rattle.wal_log.specs.Places.{EndsOnDevice, segment_start, record_start};
 ghost use Rattle.wal_log.specs.Records.{record_bytes, HasOld};
 ghost use Rattle.wal_log.specs.Segments.{segments_of, with_record, started_segment};
 ghost use Rattle.wal_log.specs.Rules.{Opens, records_of};
+ghost use Rattle.wal_log.specs.Later.{later};
 ghost use Rattle.wal_log.specs.State.{IsAtRest, IsCounted, IsLogOf, HasRecordsOr, HasSameRecords, OpensAs, IsBeforeOrAfter, IsTurning, newest, following, first_header, append_calls, close_calls, close_calls_if, close_count, start_calls, turn_calls};
 
 use crate::Record;
 use crate::places::{
-    LOG_PAGES, LSN_LIMIT, MOST_RECORDS, OPEN, RECORD_BYTES, SEGMENT_BYTES, record_start,
-    segment_start,
+    LSN_LIMIT, MOST_RECORDS, OPEN, RECORD_BYTES, SEGMENT_BYTES, record_start, segment_start,
 };
 use crate::spelling::{header_with_closed_gate, with_closed_gate};
 use dev_model::{Device, Failed, write_synced};
 
-/// The log's end: its newest generation with the records there, the next number, and which headers are open.
+/// A log: its place, its newest generation with the records there, the next number, and which headers are open.
 #[derive(Clone, Copy)]
 pub struct Log {
+    /// The byte of the device where the log begins, the log's place.
+    pub start: u64,
     /// The newest generation. Its segment is the remainder by 4.
     pub generation: u64,
     /// The number of the next record.
@@ -45,36 +47,37 @@ impl Log {
         requires next { logged.now.lsn ≡ self.old.next_lsn }
         requires below { logged.now.lsn < LSN_LIMIT }
         requires has_old { HasOld logged.now.op logged.now.old_point }
-        requires pages { LOG_PAGES ≤ D.pages device.old }
+        requires pages { EndsOnDevice self.old.start (D.pages device.old) }
         requires counted { IsCounted self.old }
 
         ensures did { Did (append_calls self.old logged.now) (D.story device.old) (D.story device.new) result }
         ensures ticks { Ticks 4 (D.clock device.old) (D.clock device.new) result }
         ensures ack { IfOk result (λ ack. ack ≡ D.clock device.new) }
-        ensures within { WhereTold (D.story device.old) (λ s. WritesWithin (record_start (newest self.old) self.old.records) 97 s (D.story device.new)) }
+        ensures within { WhereTold (D.story device.old) (λ s. WritesWithin (record_start self.old.start (newest self.old) self.old.records) 97 s (D.story device.new)) }
 
         // Each crash at each moment of the call leaves the old segments, or these with the new record.
         ensures any_moment { WhereTold (D.story device.old) (λ s. IsAtRest self.old s → LeavesOnly s (D.story device.new)
-            (λ image. IsBeforeOrAfter (newest self.old) (record_bytes logged.now) (segments_of (bytes_of s)) (segments_of image))) }
+            (λ image. IsBeforeOrAfter (newest self.old) (record_bytes logged.now) (segments_of self.old.start (bytes_of s)) (segments_of self.old.start image))) }
         ensures at_rest { OnOk result (WhereTold (D.story device.old) (IsAtRest self.old) → WhereTold (D.story device.new) (IsAtRest self.new)) }
         ensures appended { OnOk result (WhereTold (D.story device.old) (λ s. IsAtRest self.old s → WhereTold (D.story device.new)
-            (λ t. segments_of (bytes_of t) ≡ set (segments_of (bytes_of s)) (newest self.old)
-            (with_record (record_bytes logged.now) (get_or (segments_of (bytes_of s)) (newest self.old) None))))) }
+            (λ t. segments_of self.old.start (bytes_of t) ≡ set (segments_of self.old.start (bytes_of s)) (newest self.old)
+            (with_record (record_bytes logged.now) (get_or (segments_of self.old.start (bytes_of s)) (newest self.old) None))))) }
 
         // The rules hold of the log with the new record, and each image reads as the records before it, or these and the new one.
-        ensures log_of { OnOk result (WhereTold (D.story device.old) (λ s. IsAtRest self.old s → IsLogOf self.old (segments_of (bytes_of s)) →
-            WhereTold (D.story device.new) (λ t. IsLogOf self.new (segments_of (bytes_of t))))) }
-        ensures recovers { WhereTold (D.story device.old) (λ s. IsAtRest self.old s → IsLogOf self.old (segments_of (bytes_of s)) →
-            (ends : List ℕ) → Opens ends (segments_of (bytes_of s)) → LeavesOnly s (D.story device.new)
-            (λ image. HasRecordsOr ends (records_of (segments_of (bytes_of s))) logged.now (segments_of image))) }
+        ensures log_of { OnOk result (WhereTold (D.story device.old) (λ s. IsAtRest self.old s → IsLogOf self.old (segments_of self.old.start (bytes_of s)) →
+            WhereTold (D.story device.new) (λ t. IsLogOf self.new (segments_of self.old.start (bytes_of t))))) }
+        ensures recovers { WhereTold (D.story device.old) (λ s. IsAtRest self.old s → IsLogOf self.old (segments_of self.old.start (bytes_of s)) →
+            (ends : List ℕ) → Opens ends (segments_of self.old.start (bytes_of s)) → LeavesOnly s (D.story device.new)
+            (λ image. HasRecordsOr ends (records_of (segments_of self.old.start (bytes_of s))) logged.now (segments_of self.old.start image))) }
 
         // After `Ok` it reads as the records before it and the new one.
-        ensures logged { OnOk result (WhereTold (D.story device.old) (λ s. IsAtRest self.old s → IsLogOf self.old (segments_of (bytes_of s)) →
-            (ends : List ℕ) → Opens ends (segments_of (bytes_of s)) → WhereTold (D.story device.new)
-            (λ t. OpensAs ends (records_of (segments_of (bytes_of s)) ++ logged.now ∷ []) (segments_of (bytes_of t))))) }
+        ensures logged { OnOk result (WhereTold (D.story device.old) (λ s. IsAtRest self.old s → IsLogOf self.old (segments_of self.old.start (bytes_of s)) →
+            (ends : List ℕ) → Opens ends (segments_of self.old.start (bytes_of s)) → WhereTold (D.story device.new)
+            (λ t. OpensAs ends (records_of (segments_of self.old.start (bytes_of s)) ++ logged.now ∷ []) (segments_of self.old.start (bytes_of t))))) }
         ensures width { length (record_bytes logged.now) ≡ RECORD_BYTES - 1 }
 
         ensures counted { OnOk result (IsCounted self.new) }
+        ensures start { self.new.start ≡ self.old.start }
         ensures generation { self.new.generation ≡ self.old.generation }
         ensures open_headers { self.new.open_headers ≡ self.old.open_headers }
         ensures records { OnOk result (self.new.records ≡ self.old.records + 1) }
@@ -82,7 +85,7 @@ impl Log {
         ensures same_pages { D.pages device.new ≡ D.pages device.old }
         ensures cause { HasCause (D.fault_count device.old) (D.fault_count device.new) result }
     {
-        let gate = record_start(self.newest(), self.records);
+        let gate = record_start(self.start, self.newest(), self.records);
         let spelled = with_closed_gate(logged);
         write_synced(device, gate + 1, spelled.bytes())?;
         write_synced(device, gate, &[OPEN])?;
@@ -95,29 +98,34 @@ impl Log {
     /// After `Failed` the log is not used again.
     pub fn next_segment<D: Device>(&mut self, device: &mut D) -> Result<(), Failed>
         requires some { 1 ≤ self.old.records }
-        requires pages { LOG_PAGES ≤ D.pages device.old }
+        requires pages { EndsOnDevice self.old.start (D.pages device.old) }
         requires counted { IsCounted self.old }
 
         ensures did { Did (turn_calls self.old) (D.story device.old) (D.story device.new) result }
         ensures ticks { Ticks (close_count (get_or self.old.open_headers (following self.old) false) + 4) (D.clock device.old) (D.clock device.new) result }
-        ensures within { WhereTold (D.story device.old) (λ s. WritesWithin (segment_start (following self.old)) SEGMENT_BYTES s (D.story device.new)) }
+        ensures within { WhereTold (D.story device.old) (λ s. WritesWithin (segment_start self.old.start (following self.old)) SEGMENT_BYTES s (D.story device.new)) }
 
         // Each crash at each moment of the call leaves the old segments, these without the next one, or these with it as a new one.
         ensures any_moment { WhereTold (D.story device.old) (λ s. IsAtRest self.old s → LeavesOnly s (D.story device.new)
-            (λ image. IsTurning (following self.old) (first_header self.old) (segments_of (bytes_of s)) (segments_of image))) }
+            (λ image. IsTurning (following self.old) (first_header self.old) (segments_of self.old.start (bytes_of s)) (segments_of self.old.start image))) }
         ensures at_rest { OnOk result (WhereTold (D.story device.old) (IsAtRest self.old) → WhereTold (D.story device.new) (IsAtRest self.new)) }
         ensures turned { OnOk result (WhereTold (D.story device.old) (λ s. IsAtRest self.old s → WhereTold (D.story device.new)
-            (λ t. segments_of (bytes_of t) ≡ set (segments_of (bytes_of s)) (following self.old) (Some (started_segment (first_header self.old)))))) }
+            (λ t. segments_of self.old.start (bytes_of t) ≡ set (segments_of self.old.start (bytes_of s)) (following self.old) (Some (started_segment (first_header self.old)))))) }
 
         // The rules hold of the log afterwards, and where the indexes end right before the newest segment, each image reads the same
         // records, but for those of the segment that is used again.
-        ensures log_of { OnOk result (WhereTold (D.story device.old) (λ s. IsAtRest self.old s → IsLogOf self.old (segments_of (bytes_of s)) →
-            WhereTold (D.story device.new) (λ t. IsLogOf self.new (segments_of (bytes_of t))))) }
-        ensures recovers { WhereTold (D.story device.old) (λ s. IsAtRest self.old s → IsLogOf self.old (segments_of (bytes_of s)) →
-            (ends : List ℕ) → All (λ last. last + 1 + self.old.records ≡ self.old.next_lsn) ends → Opens ends (segments_of (bytes_of s)) →
-            LeavesOnly s (D.story device.new) (λ image. HasSameRecords ends (following self.old) (segments_of (bytes_of s)) (segments_of image))) }
+        ensures log_of { OnOk result (WhereTold (D.story device.old) (λ s. IsAtRest self.old s → IsLogOf self.old (segments_of self.old.start (bytes_of s)) →
+            WhereTold (D.story device.new) (λ t. IsLogOf self.new (segments_of self.old.start (bytes_of t))))) }
+        ensures recovers { WhereTold (D.story device.old) (λ s. IsAtRest self.old s → IsLogOf self.old (segments_of self.old.start (bytes_of s)) →
+            (ends : List ℕ) → All (λ last. last + 1 + self.old.records ≡ self.old.next_lsn) ends → Opens ends (segments_of self.old.start (bytes_of s)) →
+            LeavesOnly s (D.story device.new) (λ image. HasSameRecords ends (following self.old) (segments_of self.old.start (bytes_of s)) (segments_of self.old.start image))) }
+
+        // The segment that is used again has no record behind the end of the indexes.
+        ensures later { WhereTold (D.story device.old) (λ s. IsLogOf self.old (segments_of self.old.start (bytes_of s)) → (last : ℕ) → last + 1 + self.old.records ≡ self.old.next_lsn →
+            later last (records_of (set (segments_of self.old.start (bytes_of s)) (following self.old) None)) ≡ later last (records_of (segments_of self.old.start (bytes_of s)))) }
 
         ensures counted { OnOk result (IsCounted self.new) }
+        ensures start { self.new.start ≡ self.old.start }
         ensures generation { OnOk result (self.new.generation ≡ self.old.generation + 1) }
         ensures open_headers { OnOk result (self.new.open_headers ≡ set self.old.open_headers (following self.old) true) }
         ensures records { OnOk result (self.new.records ≡ 0) }
@@ -127,8 +135,13 @@ impl Log {
     {
         let generation = self.generation + 1;
         let next = (generation % 4) as u8;
-        close_if_open(device, next, self.open_headers[usize::from(next)])?;
-        start_segment(device, next, generation, self.next_lsn)?;
+        close_if_open(
+            device,
+            self.start,
+            next,
+            self.open_headers[usize::from(next)],
+        )?;
+        start_segment(device, self.start, next, generation, self.next_lsn)?;
         self.generation = generation;
         self.records = 0;
         self.open_headers[usize::from(next)] = true;
@@ -137,51 +150,57 @@ impl Log {
 }
 
 /// Closes a segment whose header is open.
-fn close_if_open<D: Device>(device: &mut D, k: u8, is_open: bool) -> Result<(), Failed>
+fn close_if_open<D: Device>(
+    device: &mut D,
+    log_start: u64,
+    k: u8,
+    is_open: bool,
+) -> Result<(), Failed>
     requires below { k < 4 }
-    requires pages { LOG_PAGES ≤ D.pages device.old }
-    ensures did { Did (close_calls_if is_open k) (D.story device.old) (D.story device.new) result }
+    requires pages { EndsOnDevice log_start (D.pages device.old) }
+    ensures did { Did (close_calls_if log_start is_open k) (D.story device.old) (D.story device.new) result }
     ensures ticks { Ticks (close_count is_open) (D.clock device.old) (D.clock device.new) result }
     ensures same_pages { D.pages device.new ≡ D.pages device.old }
     ensures cause { HasCause (D.fault_count device.old) (D.fault_count device.new) result }
 {
     if is_open {
-        return close_header(device, k);
+        return close_header(device, log_start, k);
     }
     Ok(())
 }
 
 /// Closes the gate of a segment's header. That has to be open: one that is closed may stand before anything, and while it
 /// is written a crash may open it.
-fn close_header<D: Device>(device: &mut D, k: u8) -> Result<(), Failed>
+fn close_header<D: Device>(device: &mut D, log_start: u64, k: u8) -> Result<(), Failed>
     requires below { k < 4 }
-    requires pages { LOG_PAGES ≤ D.pages device.old }
-    ensures did { Did (close_calls k) (D.story device.old) (D.story device.new) result }
+    requires pages { EndsOnDevice log_start (D.pages device.old) }
+    ensures did { Did (close_calls log_start k) (D.story device.old) (D.story device.new) result }
     ensures ticks { Ticks 2 (D.clock device.old) (D.clock device.new) result }
     ensures same_pages { D.pages device.new ≡ D.pages device.old }
     ensures cause { HasCause (D.fault_count device.old) (D.fault_count device.new) result }
 {
-    write_synced(device, segment_start(k), &[0])?;
+    write_synced(device, segment_start(log_start, k), &[0])?;
     Ok(())
 }
 
-/// Starts a segment whose header is closed, without a record: writes the header with the closed gate of the segment's first
-/// record, syncs, opens the header's gate and syncs. It stops at the call that fails.
+/// Starts a segment whose header is closed, without a record, in the log that begins at `log_start`: writes the header with
+/// the closed gate of the segment's first record, syncs, opens the header's gate and syncs. It stops at the call that fails.
 pub fn start_segment<D: Device>(
     device: &mut D,
+    log_start: u64,
     k: u8,
     generation: u64,
     first_lsn: u64,
 ) -> Result<(), Failed>
     requires below { k < 4 }
-    requires pages { LOG_PAGES ≤ D.pages device.old }
-    ensures did { Did (start_calls k generation first_lsn) (D.story device.old) (D.story device.new) result }
+    requires pages { EndsOnDevice log_start (D.pages device.old) }
+    ensures did { Did (start_calls log_start k generation first_lsn) (D.story device.old) (D.story device.new) result }
     ensures ticks { Ticks 4 (D.clock device.old) (D.clock device.new) result }
     ensures same_pages { D.pages device.new ≡ D.pages device.old }
     ensures cause { HasCause (D.fault_count device.old) (D.fault_count device.new) result }
 {
     let spelled = header_with_closed_gate(generation, first_lsn);
-    let start = segment_start(k);
+    let start = segment_start(log_start, k);
     write_synced(device, start + 1, spelled.bytes())?;
     write_synced(device, start, &[OPEN])?;
     Ok(())

@@ -2,42 +2,43 @@
 ghost use Rattle.std.specs.Prelude.{◌≡◌, ◌==◌, ◌<◌, ◌≤◌, ◌^◌, length, All, IfOk, IfErr, ℕ, false, get_or};
 ghost use Rattle.dev_model.specs.Counts.{HasCause};
 ghost use Rattle.dev_model.specs.Story.{WhereTold, bytes_of};
-ghost use Rattle.wal_log.specs.Places.{ReadsLog};
-ghost use Rattle.wal_log.specs.Places.{segment_start};
+ghost use Rattle.wal_log.specs.Places.{EndsOnDevice, ReadsLog};
 ghost use Rattle.wal_log.specs.Segments.{segments_of};
 ghost use Rattle.wal_log.specs.Rules.{Opens, IsBad, records_of};
 ghost use Rattle.wal_log.specs.Found.{WhereBad, HasCauseOfFault};
 ghost use Rattle.wal_log.specs.State.{IsAtRest, IsCounted, IsLogOf, IsSegmentStill, IsStill};
 
-use crate::places::{LOG_PAGES, LSN_LIMIT};
+use crate::places::LSN_LIMIT;
 use crate::walk::{Gathered, read_segments};
 use crate::{Log, LogFault, Record};
 use dev_model::Device;
 use std::alloc::Global;
 
 impl Log {
-    /// Reads the log: its end, and all records in order. `ends` are the numbers of the last records that the indexes hold,
-    /// and there is one at least.
+    /// Reads the log that begins at `log_start`: its end, and all records in order. `ends` are the numbers of the last records
+    /// that the indexes hold, and there is one at least.
     pub fn read_all<D: Device>(
         device: &mut D,
+        log_start: u64,
         ends: &[u64],
         alloc: Global,
     ) -> Result<(Log, Vec<Record>), LogFault>
-        requires pages { LOG_PAGES ≤ D.pages device.old }
+        requires pages { EndsOnDevice log_start (D.pages device.old) }
         requires some { 1 ≤ length ends.now }
         requires below { All (λ last. last < LSN_LIMIT) ends.now }
-        ensures opens { IfOk result (λ read. WhereTold (D.story device.old) (λ s. IsStill s → Opens ends.now (segments_of (bytes_of s)))) }
-        ensures records { IfOk result (λ read. WhereTold (D.story device.old) (λ s. IsStill s → read.1.items ≡ records_of (segments_of (bytes_of s)))) }
+        ensures opens { IfOk result (λ read. WhereTold (D.story device.old) (λ s. IsStill log_start s → Opens ends.now (segments_of log_start (bytes_of s)))) }
+        ensures records { IfOk result (λ read. WhereTold (D.story device.old) (λ s. IsStill log_start s → read.1.items ≡ records_of (segments_of log_start (bytes_of s)))) }
+        ensures start { IfOk result (λ read. read.0.start ≡ log_start) }
         ensures counted { IfOk result (λ read. IsCounted read.0) }
-        ensures log_of { IfOk result (λ read. WhereTold (D.story device.old) (λ s. IsStill s → IsLogOf read.0 (segments_of (bytes_of s)))) }
-        ensures at_rest { IfOk result (λ read. WhereTold (D.story device.old) (λ s. IsStill s → WhereTold (D.story device.new) (IsAtRest read.0))) }
+        ensures log_of { IfOk result (λ read. WhereTold (D.story device.old) (λ s. IsStill log_start s → IsLogOf read.0 (segments_of log_start (bytes_of s)))) }
+        ensures at_rest { IfOk result (λ read. WhereTold (D.story device.old) (λ s. IsStill log_start s → WhereTold (D.story device.new) (IsAtRest read.0))) }
         ensures bad { IfErr result (λ fault. WhereBad fault (λ number.
-            WhereTold (D.story device.old) (λ s. IsStill s → IsBad ends.now (segments_of (bytes_of s)) number))) }
-        ensures reads { WhereTold (D.story device.old) (λ s. ReadsLog s (D.story device.new)) }
+            WhereTold (D.story device.old) (λ s. IsStill log_start s → IsBad ends.now (segments_of log_start (bytes_of s)) number))) }
+        ensures reads { WhereTold (D.story device.old) (λ s. ReadsLog log_start s (D.story device.new)) }
         ensures same_pages { D.pages device.new ≡ D.pages device.old }
         ensures cause { HasCauseOfFault (D.fault_count device.old) (D.fault_count device.new) result }
     {
-        match read_segments(device, ends, alloc) {
+        match read_segments(device, log_start, ends, alloc) {
             Ok(read) => {
                 let Gathered {
                     ended,
@@ -45,6 +46,7 @@ impl Log {
                     records,
                 } = read;
                 let log = Log {
+                    start: log_start,
                     generation: ended.generation,
                     next_lsn: ended.first_lsn + ended.records,
                     records: ended.records,

@@ -2,8 +2,7 @@
 ghost use Rattle.std.specs.Prelude.{◌≡◌, ◌+◌, ◌*◌, ◌%◌, ◌<◌, ◌≤◌, ◌++◌, [], ◌∷◌, Some, IfOk, IfErr, OnOk, OnErr, ℕ, length, map, slice_index};
 ghost use Rattle.dev_model.specs.Counts.{HasCause, Rose};
 ghost use Rattle.dev_model.specs.Story.{WhereTold, IsReadFrom, bytes_of};
-ghost use Rattle.wal_log.specs.Places.{ReadsLog};
-ghost use Rattle.wal_log.specs.Places.{segment_start, record_start};
+ghost use Rattle.wal_log.specs.Places.{EndsOnDevice, ReadsLog, record_start};
 ghost use Rattle.wal_log.specs.Records.{record_of, IsRecord};
 ghost use Rattle.wal_log.specs.Segments.{segment_records, segments_of};
 ghost use Rattle.wal_log.specs.Rules.{HasRecords};
@@ -11,7 +10,7 @@ ghost use Rattle.wal_log.specs.Found.{HoldsPlaces, IsFoundIn, window_start, IsPl
 
 use crate::Record;
 use crate::parsing::parse;
-use crate::places::{LOG_PAGES, MOST_RECORDS, OPEN, RECORD_BYTES, record_start};
+use crate::places::{MOST_RECORDS, OPEN, RECORD_BYTES, record_start};
 use dev_model::{Device, Failed};
 
 /// What is read at once: a page's bytes from a record's place on.
@@ -41,24 +40,25 @@ pub enum Found {
 /// Fills the window where a place is the first in it.
 fn fill_window<D: Device>(
     device: &mut D,
+    log_start: u64,
     segment: u8,
     place: u64,
     window: &mut [u8],
 ) -> Result<(), Failed>
     requires below { segment < 4 }
     requires place { place ≤ MOST_RECORDS }
-    requires pages { LOG_PAGES ≤ D.pages device.old }
+    requires pages { EndsOnDevice log_start (D.pages device.old) }
     requires width { length window.old ≡ WINDOW_BYTES }
-    ensures here { OnOk result (WhereTold (D.story device.old) (λ s. HoldsPlaces segment place window.old s → IsReadFrom (window_start segment place) window.new s)) }
-    ensures holds { OnOk result (WhereTold (D.story device.old) (HoldsPlaces segment place window.old) → WhereTold (D.story device.new) (IsReadFrom (window_start segment place) window.new)) }
-    ensures reads { WhereTold (D.story device.old) (λ s. ReadsLog s (D.story device.new)) }
+    ensures here { OnOk result (WhereTold (D.story device.old) (λ s. HoldsPlaces log_start segment place window.old s → IsReadFrom (window_start log_start segment place) window.new s)) }
+    ensures holds { OnOk result (WhereTold (D.story device.old) (HoldsPlaces log_start segment place window.old) → WhereTold (D.story device.new) (IsReadFrom (window_start log_start segment place) window.new)) }
+    ensures reads { WhereTold (D.story device.old) (λ s. ReadsLog log_start s (D.story device.new)) }
     ensures same_pages { D.pages device.new ≡ D.pages device.old }
     ensures cause { HasCause (D.fault_count device.old) (D.fault_count device.new) result }
 {
     if place % WINDOW_RECORDS != 0 {
         return Ok(());
     }
-    device.read(record_start(segment, place), window)?;
+    device.read(record_start(log_start, segment, place), window)?;
     Ok(())
 }
 
@@ -85,6 +85,7 @@ fn find_place(window: &[u8], place: u64, first_lsn: u64) -> Found
 /// Reads the place of a record, with those behind it where the window doesn't hold it yet.
 fn read_place<D: Device>(
     device: &mut D,
+    log_start: u64,
     segment: u8,
     place: u64,
     first_lsn: u64,
@@ -92,40 +93,41 @@ fn read_place<D: Device>(
 ) -> Result<Found, Failed>
     requires below { segment < 4 }
     requires place { place ≤ MOST_RECORDS }
-    requires pages { LOG_PAGES ≤ D.pages device.old }
+    requires pages { EndsOnDevice log_start (D.pages device.old) }
     requires width { length window.old ≡ WINDOW_BYTES }
-    ensures found { IfOk result (λ found. WhereTold (D.story device.old) (λ s. HoldsPlaces segment place window.old s → IsPlaceStill (record_start segment place) s → IsFound (record_start segment place) (first_lsn + place) (bytes_of s) found)) }
-    ensures holds { OnOk result (WhereTold (D.story device.old) (HoldsPlaces segment place window.old) → WhereTold (D.story device.new) (HoldsPlaces segment (place + 1) window.new)) }
+    ensures found { IfOk result (λ found. WhereTold (D.story device.old) (λ s. HoldsPlaces log_start segment place window.old s → IsPlaceStill (record_start log_start segment place) s → IsFound (record_start log_start segment place) (first_lsn + place) (bytes_of s) found)) }
+    ensures holds { OnOk result (WhereTold (D.story device.old) (HoldsPlaces log_start segment place window.old) → WhereTold (D.story device.new) (HoldsPlaces log_start segment (place + 1) window.new)) }
     ensures number { IfOk result (HasNumber (first_lsn + place)) }
-    ensures reads { WhereTold (D.story device.old) (λ s. ReadsLog s (D.story device.new)) }
+    ensures reads { WhereTold (D.story device.old) (λ s. ReadsLog log_start s (D.story device.new)) }
     ensures same_pages { D.pages device.new ≡ D.pages device.old }
     ensures cause { HasCause (D.fault_count device.old) (D.fault_count device.new) result }
 {
-    fill_window(device, segment, place, window)?;
+    fill_window(device, log_start, segment, place, window)?;
     Ok(find_place(window, place, first_lsn))
 }
 
 /// Reads the records of a segment to the end of a list, and answers how many there were.
 pub fn read_records<D: Device>(
     device: &mut D,
+    log_start: u64,
     segment: u8,
     first_lsn: u64,
     records: &mut Vec<Record>,
 ) -> Result<u64, LogFault>
     requires below { segment < 4 }
-    requires pages { LOG_PAGES ≤ D.pages device.old }
-    ensures read { IfOk result (λ count. WhereTold (D.story device.old) (λ s. IsOpenStill segment s →
-        HasReadAll first_lsn count (segment_records segment (bytes_of s)) records.old.items records.new.items)) }
+    requires pages { EndsOnDevice log_start (D.pages device.old) }
+    ensures read { IfOk result (λ count. WhereTold (D.story device.old) (λ s. IsOpenStill log_start segment s →
+        HasReadAll first_lsn count (segment_records log_start segment (bytes_of s)) records.old.items records.new.items)) }
     ensures few { IfOk result (AreFew first_lsn) }
     ensures bad { IfErr result (λ fault. WhereBad fault (λ number.
-        (number ≡ segment) × WhereTold (D.story device.old) (λ s. IsOpenStill segment s → HasRecords first_lsn (segment_records segment (bytes_of s)) → ⊥))) }
-    ensures reads { WhereTold (D.story device.old) (λ s. ReadsLog s (D.story device.new)) }
+        (number ≡ segment) × WhereTold (D.story device.old) (λ s. IsOpenStill log_start segment s → HasRecords first_lsn (segment_records log_start segment (bytes_of s)) → ⊥))) }
+    ensures reads { WhereTold (D.story device.old) (λ s. ReadsLog log_start s (D.story device.new)) }
     ensures same_pages { D.pages device.new ≡ D.pages device.old }
     ensures cause { HasCauseOfFault (D.fault_count device.old) (D.fault_count device.new) result }
 {
     let mut window = [0; WINDOW_BYTES];
     for place in 0..MOST_RECORDS + 1 {
-        let found = match read_place(device, segment, place, first_lsn, &mut window) {
+        let found = match read_place(device, log_start, segment, place, first_lsn, &mut window) {
             Ok(found) => found,
             Err(_) => return Err(LogFault::Failed),
         };

@@ -1,14 +1,23 @@
 // What no proof sees: that the definitions say what was meant. Expected bytes and answers are worked out by hand.
 ghost use Rattle.std.specs.Prelude.{◌≡◌, ◌≤◌, IfSome, None};
 ghost use Rattle.wal_log.specs.Examples.{first_write, first_write_bytes};
+ghost use Rattle.wal_log.specs.Places.{EndsOnDevice};
 ghost use Rattle.wal_log.specs.Records.{record_bytes, HasOld};
 ghost use Rattle.wal_log.specs.State.{IsCounted};
 
-use crate::{LOG_PAGES, LSN_LIMIT, Log, LogFault, LogOp, MOST_RECORDS, Record};
+use crate::{
+    LOG_BYTES, LSN_LIMIT, Log, LogFault, LogOp, MOST_RECORDS, Record, segment_start, start_segment,
+};
 use dev_model::{Device, MemDevice, Torn};
 use geo_base::{Note, Point, Row};
 use std::alloc::Global;
 use std::test::Fail;
+
+/// Where the log begins, but in the test of other places.
+const START: u64 = 36_864;
+
+/// A device of so many pages ends with that log.
+const PAGES: u32 = 265;
 
 /// The example record has these bytes.
 fn example()
@@ -22,9 +31,9 @@ fn fresh_failing(failing: u64, calls: u32, bytes: usize, alloc: Global) -> Optio
 {
     let mut fail = Vec::new(alloc);
     fail.push(failing).ok()?;
-    let mut device = MemDevice::new(alloc, LOG_PAGES, calls, bytes, fail).ok()?;
-    device.poke(36_864, 165);
-    device.poke(36_880, 1);
+    let mut device = MemDevice::new(alloc, PAGES, calls, bytes, fail).ok()?;
+    device.poke(START, 165);
+    device.poke(START + 16, 1);
     Some(device)
 }
 
@@ -37,10 +46,11 @@ fn fresh(alloc: Global) -> Option<MemDevice>
 
 /// Adds the next record, and answers when it stands.
 fn add(log: &mut Log, device: &mut MemDevice, op: LogOp, old_point: Option<Point>) -> Option<u64>
-    requires pages { device.old.pages ≡ 265 }
+    requires pages { EndsOnDevice log.old.start device.old.pages }
     requires counted { IsCounted log.old }
     requires has_old { HasOld op old_point }
-    ensures pages { device.new.pages ≡ 265 }
+    ensures pages { device.new.pages ≡ device.old.pages }
+    ensures start { log.new.start ≡ log.old.start }
     ensures counted { IfSome result (λ _. IsCounted log.new) }
     ensures some { IfSome result (λ _. 1 ≤ log.new.records) }
 {
@@ -66,41 +76,55 @@ fn put(key: u64) -> Option<LogOp>
     Some(LogOp::Put(Row { key, point, note }))
 }
 
-/// A put and a delete in segment 0, and a put in segment 1.
+/// Adds to an empty log: a put and a delete in segment 0, and a put in segment 1.
+fn add_three(device: &mut MemDevice, start: u64, alloc: Global) -> Option<()>
+    requires pages { EndsOnDevice start device.old.pages }
+    ensures pages { device.new.pages ≡ device.old.pages }
+{
+    let (mut log, _) = Log::read_all(device, start, &[0], alloc).ok()?;
+    let first = put(7)?;
+    let second = put(8)?;
+    let old_point = Some(Point { x: 3, y: 4 });
+    add(&mut log, device, first, None)?;
+    add(&mut log, device, LogOp::Del(7), old_point)?;
+    if log.next_segment(device).is_err() {
+        return None;
+    }
+    add(&mut log, device, second, None)?;
+    Some(())
+}
+
+/// A device with three records in its log.
 fn three_records(alloc: Global) -> Option<MemDevice>
     ensures { IfSome result (λ device. device.pages ≡ 265) }
 {
     let mut device = fresh(alloc)?;
-    let (mut log, _) = Log::read_all(&mut device, &[0], alloc).ok()?;
-    let first = put(7)?;
-    let second = put(8)?;
-    let old_point = Some(Point { x: 3, y: 4 });
-    add(&mut log, &mut device, first, None)?;
-    add(&mut log, &mut device, LogOp::Del(7), old_point)?;
-    if log.next_segment(&mut device).is_err() {
-        return None;
-    }
-    add(&mut log, &mut device, second, None)?;
+    add_three(&mut device, START, alloc)?;
     Some(device)
 }
 
-/// How the log reads: the number of each record, or why it can't be read.
+/// How a log reads: how many records there are, or why it can't be read.
+fn read_at(device: &mut MemDevice, start: u64, last: u32, alloc: Global) -> Result<usize, LogFault>
+    requires pages { EndsOnDevice start device.old.pages }
+    ensures pages { device.new.pages ≡ device.old.pages }
+{
+    let (_, records) = Log::read_all(device, start, &[u64::from(last)], alloc)?;
+    Ok(records.len())
+}
+
 fn read(device: &mut MemDevice, last: u32, alloc: Global) -> Option<Result<usize, LogFault>> {
-    if device.pages() < LOG_PAGES {
+    if device.pages() < PAGES {
         return None;
     }
-    match Log::read_all(device, &[u64::from(last)], alloc) {
-        Ok((_, records)) => Some(Ok(records.len())),
-        Err(fault) => Some(Err(fault)),
-    }
+    Some(read_at(device, START, last, alloc))
 }
 
 /// Changes a byte of a segment, and answers what was there.
 fn change(device: &mut MemDevice, segment: u8, at: u16, byte: u8) -> Option<u8> {
-    if device.pages() < LOG_PAGES {
+    if device.pages() < PAGES {
         return None;
     }
-    let place = 36_864 + 262_144 * u64::from(segment % 4) + u64::from(at);
+    let place = START + 262_144 * u64::from(segment % 4) + u64::from(at);
     let mut was = [0];
     device.read(place, &mut was).ok()?;
     device.poke(place, byte);
@@ -264,7 +288,7 @@ fn each_crash_leaves_whole_records(rt: HostRuntime) -> Result<(), Fail> {
 fn add_first(device: &mut MemDevice, alloc: Global) -> Option<bool>
     requires pages { device.old.pages ≡ 265 }
 {
-    let (mut log, _) = Log::read_all(device, &[0], alloc).ok()?;
+    let (mut log, _) = Log::read_all(device, START, &[0], alloc).ok()?;
     let first = put(7)?;
     Some(add(&mut log, device, first, None).is_some())
 }
@@ -312,7 +336,7 @@ fn full(alloc: Global) -> Option<MemDevice>
     ensures { IfSome result (λ device. device.pages ≡ 265) }
 {
     let mut device = fresh_failing(0, 9000, 300_000, alloc)?;
-    let (mut log, _) = Log::read_all(&mut device, &[0], alloc).ok()?;
+    let (mut log, _) = Log::read_all(&mut device, START, &[0], alloc).ok()?;
     for _ in 0..MOST_RECORDS {
         let row = put(7)?;
         add(&mut log, &mut device, row, None)?;
@@ -322,7 +346,7 @@ fn full(alloc: Global) -> Option<MemDevice>
 
 /// Lays a delete of key 0, which was at the origin, at a place of segment 0, with the number that belongs there.
 fn lay_delete(device: &mut MemDevice, place: u16) -> Option<()> {
-    if device.pages() < LOG_PAGES || place > 2048 {
+    if device.pages() < PAGES || place > 2048 {
         return None;
     }
     let gate = 36_928 + 96 * u64::from(place);
@@ -353,5 +377,44 @@ fn a_full_segment_is_read(rt: HostRuntime) -> Result<(), Fail> {
     // a sound record too many
     assert!(rt; lay_delete(&mut device, 2048).is_some());
     assert_eq!(rt; read(&mut device, 0, alloc), Some(Err(LogFault::BadLog(0))));
+    Ok(())
+}
+
+/// Starts a log at this place, and adds three records.
+fn start_log(device: &mut MemDevice, start: u64, alloc: Global) -> Option<()>
+    requires pages { EndsOnDevice start device.old.pages }
+    ensures pages { device.new.pages ≡ device.old.pages }
+{
+    start_segment(device, start, 0, 0, 1).ok()?;
+    add_three(device, start, alloc)
+}
+
+/// The front of the first record in segment 1, and how the log reads.
+fn found_at(device: &mut MemDevice, start: u64, alloc: Global) -> Option<([u8; 20], usize)>
+    requires pages { EndsOnDevice start device.old.pages }
+    ensures pages { device.new.pages ≡ device.old.pages }
+{
+    let mut record = [0; 20];
+    device.read(segment_start(start, 1) + 64, &mut record).ok()?;
+    Some((record, read_at(device, start, 2, alloc).ok()?))
+}
+
+#[test]
+fn a_log_may_begin_anywhere(rt: HostRuntime) -> Result<(), Fail> {
+    let alloc = rt.alloc();
+    let Ok(mut device) = MemDevice::new(alloc, 520, 200, 2000, Vec::new(alloc)) else {
+        panic!(rt; "no device");
+    };
+    let second = 100 + LOG_BYTES;
+    assert_eq!(rt; start_log(&mut device, 100, alloc), Some(()));
+    assert_eq!(rt; start_log(&mut device, second, alloc), Some(()));
+    let third = *b"\xa5\x01\x00\x01\0\0\0\0\0\0\0\x03\0\0\0\0\0\0\0\x08";
+    assert_eq!(rt; found_at(&mut device, 100, alloc), Some((third, 3)));
+    assert_eq!(rt; found_at(&mut device, second, alloc), Some((third, 3)));
+    // no log begins between these places
+    assert_eq!(rt;
+        read_at(&mut device, START, 0, alloc),
+        Err(LogFault::BadLog(0))
+    );
     Ok(())
 }

@@ -2,7 +2,7 @@
 ghost use Rattle.std.specs.Prelude.{◌==◌, get_or, false, ◌≡◌, ◌+◌, ◌<◌, ◌≤◌, ◌^◌, ◌++◌, [], ◌∷◌, Some, None, IfOk, IfErr, OnOk, ℕ, length, drop, replicate, All, take};
 ghost use Rattle.std.specs.Bool.{OnTrue, OnFalse};
 ghost use Rattle.dev_model.specs.Story.{WhereTold, bytes_of};
-ghost use Rattle.wal_log.specs.Places.{ReadsLog, segment_start};
+ghost use Rattle.wal_log.specs.Places.{EndsOnDevice, ReadsLog, segment_start};
 ghost use Rattle.wal_log.specs.State.{IsStill};
 ghost use Rattle.wal_log.specs.Segments.{segments_of};
 ghost use Rattle.wal_log.specs.Rules.{Opens, IsBad, records_of};
@@ -10,7 +10,7 @@ ghost use Rattle.wal_log.specs.Found.{IsOpenStill, WhereBad, HasCauseOfFault};
 ghost use Rattle.wal_log.specs.Walk.{GoesOn, StartsAfter, EndsThere, HasReadSegment, IsUnsound, IsNewest, IsEndOf, IsCountedEnd};
 
 use crate::heads::{Head, read_heads};
-use crate::places::{LOG_PAGES, LSN_LIMIT, OPEN, RESERVED_AT, RESERVED_BYTES};
+use crate::places::{LSN_LIMIT, OPEN, RESERVED_AT, RESERVED_BYTES};
 use crate::reading::read_records;
 use crate::{LogFault, Record};
 use dev_model::Device;
@@ -102,17 +102,18 @@ pub fn all_end_there(before: Option<Ended>, head: &Head, ends: &[u64]) -> bool
 /// Reads a segment that comes after another one, to the end of a list of records.
 fn read_segment<D: Device>(
     device: &mut D,
+    log_start: u64,
     before: Option<Ended>,
     head: &Head,
     records: &mut Vec<Record>,
 ) -> Result<Ended, LogFault>
-    requires pages { LOG_PAGES ≤ D.pages device.old }
-    ensures read { IfOk result (λ ended. WhereTold (D.story device.old) (λ s. IsOpenStill head.now.number s →
-        HasReadSegment (bytes_of s) before head.now records.old.items ended records.new.items)) }
+    requires pages { EndsOnDevice log_start (D.pages device.old) }
+    ensures read { IfOk result (λ ended. WhereTold (D.story device.old) (λ s. IsOpenStill log_start head.now.number s →
+        HasReadSegment log_start (bytes_of s) before head.now records.old.items ended records.new.items)) }
     ensures ended { IfOk result (IsEndOf before head.now) }
     ensures bad { IfErr result (λ fault. WhereBad fault (λ number.
-        (number ≡ head.now.number) × WhereTold (D.story device.old) (λ s. IsOpenStill head.now.number s → IsUnsound (bytes_of s) before head.now))) }
-    ensures reads { WhereTold (D.story device.old) (λ s. ReadsLog s (D.story device.new)) }
+        (number ≡ head.now.number) × WhereTold (D.story device.old) (λ s. IsOpenStill log_start head.now.number s → IsUnsound log_start (bytes_of s) before head.now))) }
+    ensures reads { WhereTold (D.story device.old) (λ s. ReadsLog log_start s (D.story device.new)) }
     ensures same_pages { D.pages device.new ≡ D.pages device.old }
     ensures cause { HasCauseOfFault (D.fault_count device.old) (D.fault_count device.new) result }
 {
@@ -121,7 +122,7 @@ fn read_segment<D: Device>(
     }
     let generation = head.generation();
     let first_lsn = head.first_lsn();
-    match read_records(device, head.number, first_lsn, records) {
+    match read_records(device, log_start, head.number, first_lsn, records) {
         Ok(count) => Ok(Ended {
             generation,
             first_lsn,
@@ -134,25 +135,26 @@ fn read_segment<D: Device>(
 /// Reads all segments of the log.
 pub fn read_segments<D: Device>(
     device: &mut D,
+    log_start: u64,
     ends: &[u64],
     alloc: Global,
 ) -> Result<Gathered, LogFault>
-    requires pages { LOG_PAGES ≤ D.pages device.old }
+    requires pages { EndsOnDevice log_start (D.pages device.old) }
     requires some { 1 ≤ length ends.now }
     requires below { All (λ last. last < LSN_LIMIT) ends.now }
-    ensures opens { IfOk result (λ read. WhereTold (D.story device.old) (λ s. IsStill s → Opens ends.now (segments_of (bytes_of s)))) }
-    ensures records { IfOk result (λ read. WhereTold (D.story device.old) (λ s. IsStill s → read.records.items ≡ records_of (segments_of (bytes_of s)))) }
+    ensures opens { IfOk result (λ read. WhereTold (D.story device.old) (λ s. IsStill log_start s → Opens ends.now (segments_of log_start (bytes_of s)))) }
+    ensures records { IfOk result (λ read. WhereTold (D.story device.old) (λ s. IsStill log_start s → read.records.items ≡ records_of (segments_of log_start (bytes_of s)))) }
     ensures counted { IfOk result (λ read. IsCountedEnd read.ended) }
-    ensures newest { IfOk result (λ read. WhereTold (D.story device.old) (λ s. IsStill s → IsNewest (bytes_of s) read.ended)) }
-    ensures told { IfOk result (λ read. WhereTold (D.story device.old) (λ s. IsStill s →
-        (k : ℕ) → k < 4 → get_or read.open_headers k false ≡ (bytes_of s (segment_start k) == OPEN))) }
+    ensures newest { IfOk result (λ read. WhereTold (D.story device.old) (λ s. IsStill log_start s → IsNewest log_start (bytes_of s) read.ended)) }
+    ensures told { IfOk result (λ read. WhereTold (D.story device.old) (λ s. IsStill log_start s →
+        (k : ℕ) → k < 4 → get_or read.open_headers k false ≡ (bytes_of s (segment_start log_start k) == OPEN))) }
     ensures bad { IfErr result (λ fault. WhereBad fault (λ number.
-        WhereTold (D.story device.old) (λ s. IsStill s → IsBad ends.now (segments_of (bytes_of s)) number))) }
-    ensures reads { WhereTold (D.story device.old) (λ s. ReadsLog s (D.story device.new)) }
+        WhereTold (D.story device.old) (λ s. IsStill log_start s → IsBad ends.now (segments_of log_start (bytes_of s)) number))) }
+    ensures reads { WhereTold (D.story device.old) (λ s. ReadsLog log_start s (D.story device.new)) }
     ensures same_pages { D.pages device.new ≡ D.pages device.old }
     ensures cause { HasCauseOfFault (D.fault_count device.old) (D.fault_count device.new) result }
 {
-    let heads = match read_heads(device, alloc) {
+    let heads = match read_heads(device, log_start, alloc) {
         Ok(heads) => heads,
         Err(fault) => return Err(fault),
     };
@@ -160,7 +162,7 @@ pub fn read_segments<D: Device>(
     let mut before = None;
     for i in 0..heads.in_order.len() {
         let head = heads.in_order[i];
-        let ended = match read_segment(device, before, &head, &mut records) {
+        let ended = match read_segment(device, log_start, before, &head, &mut records) {
             Ok(ended) => ended,
             Err(fault) => return Err(fault),
         };

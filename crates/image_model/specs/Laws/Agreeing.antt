@@ -8,9 +8,11 @@ use Rattle.wal_log.specs.Segments.{Segments, segments_of}
 use Rattle.wal_log.specs.Rules.{Opens as LogOpens, records_of}
 use Rattle.wal_log.specs.Laws.Agreeing.{segments_of-same, segment_at-same}
 use Rattle.image_model.specs.Superblock.{IsFormatted, superblock_bytes, declared}
-use Rattle.image_model.specs.Directory.{slot_start, HasNoComponent}
+use Rattle.comp_dir.specs.Places.{slot_start}
+use Rattle.image_model.specs.Directory.{HasNoComponent}
 use Rattle.image_model.specs.Opening.{ends, Opens, IsLookedAt, IsLookedInSuperblock, IsSlotGate, IsLookedInLog}
 use Rattle.image_model.specs.Recovered.{replayed, recovered, Recovers}
+use Rattle.image_model.specs.declared.places.TheConstants.{LOG_START}
 
 pub formatted-same : (pages : ℕ) (a b : Bytes) → ((i : ℕ) → IsLookedInSuperblock a i → b i ≡ a i) → IsFormatted pages a → IsFormatted pages b
 formatted-same pages a b same is =
@@ -27,12 +29,12 @@ declared-same pages a b same is = same 2 (inr (is.gate, omega arith))
 pub directory-same : (a b : Bytes) → ((i : ℕ) → IsSlotGate i → b i ≡ a i) → HasNoComponent a → HasNoComponent b
 directory-same a b same closed n lt is_open = closed n lt (sym (same (slot_start n) (n, lt, refl)) ∙ is_open)
 
-pub log-same : (a b : Bytes) → ((i : ℕ) → IsLookedInLog a i → b i ≡ a i) → segments_of b ≡ segments_of a
-log-same a b same = segments_of-same a b (λ j lt. segment_at-same j a b (λ i looked. same i (j, lt, looked)))
+pub log-same : (a b : Bytes) → ((i : ℕ) → IsLookedInLog a i → b i ≡ a i) → segments_of LOG_START b ≡ segments_of LOG_START a
+log-same a b same = segments_of-same LOG_START a b (λ j lt. segment_at-same LOG_START j a b (λ i looked. same i (j, lt, looked)))
 
 pub recovers-same : (pages : ℕ) (table : Table) (a b : Bytes) → ((i : ℕ) → IsLookedAt a i → b i ≡ a i) → Recovers pages table a → Recovers pages table b
 recovers-same pages table a b same is =
-    let segments : segments_of b ≡ segments_of a = log-same a b (λ i looked. same i (inr (inr looked))) in
+    let segments : segments_of LOG_START b ≡ segments_of LOG_START a = log-same a b (λ i looked. same i (inr (inr looked))) in
     record {
       opens = record {
         formatted = formatted-same pages a b (λ i looked. same i (inl looked)) is.opens.formatted;

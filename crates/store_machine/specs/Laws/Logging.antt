@@ -14,6 +14,7 @@ use Rattle.dev_model.specs.declared.calls.DeviceCall.{DeviceCall}
 use Rattle.dev_model.specs.declared.calls.DeviceAct.TheVariants.{WriteAt, SyncAll}
 use Rattle.table_model.specs.Table.{Table}
 use Rattle.table_model.specs.Answers.{after_write}
+use Rattle.wal_log.specs.Places.{IsInLog}
 use Rattle.wal_log.specs.Records.{record_bytes, key_of}
 use Rattle.wal_log.specs.State.{append_calls}
 use Rattle.wal_log.specs.declared.places.TheConstants.{MOST_RECORDS}
@@ -21,6 +22,7 @@ use Rattle.wal_log.specs.declared.log.Log.{Log}
 use Rattle.wal_log.specs.declared.records.Record.{Record}
 use Rattle.wal_log.specs.declared.records.LogOp.{LogOp}
 use Rattle.image_model.specs.Recovered.{write_of, Recovers}
+use Rattle.image_model.specs.declared.places.TheConstants.{LOG_START}
 use Rattle.store_machine.specs.Machine.{Machine, Opening, Group, is_logged, after_event, after_logged, after_answer, after_groups}
 use Rattle.store_machine.specs.Needs.{IsReadyToWrite, place_in}
 use Rattle.store_machine.specs.Runs.{IsLogWrite, MakesWriteCalls}
@@ -36,15 +38,15 @@ use Rattle.store_machine.specs.declared.events.Action.TheVariants.{Write}
 use Rattle.store_machine.specs.declared.events.Event.{Event}
 
 -- the device calls of an append, from a clock on
-log_write : (clock : ℕ) (log : Log) (r : Record) → log.records < MOST_RECORDS → length (record_bytes r) ≡ 95 → IsLogWrite clock (ok_calls clock (append_calls log r))
-log_write clock log r room width =
+log_write : (clock : ℕ) (log : Log) (r : Record) → log.start ≡ LOG_START → log.records < MOST_RECORDS → length (record_bytes r) ≡ 95 → IsLogWrite clock (ok_calls clock (append_calls log r))
+log_write clock log r place room width =
     let two : clock + 1 + 1 ≡ clock + 2 = omega arith in
     let three : clock + 1 + 1 + 1 ≡ clock + 3 = omega arith in
     let four : clock + 1 + 1 + 1 + 1 ≡ clock + 4 = omega arith in
     let whole : length (record_bytes r ++ 0 ∷ []) ≡ 96 = omega (arith, length-append (record_bytes r) (0 ∷ []), width) in
     record {
       gate = gate_of log;
-      in_log = gate-in_log log room;
+      in_log = subst (λ (at : ℕ). IsInLog at (gate_of log) 97) place (gate-in_log log room);
       are = λ j. made_at (clock + 1) (WriteAt (gate_of log + 1) (whole j)) ∷ made_at (two j) SyncAll ∷ made_at (three j) (WriteAt (gate_of log) 1) ∷ made_at (four j) SyncAll ∷ [];
     }
 
@@ -176,8 +178,8 @@ wrote-logged old now log table owner op r wrote all table_is =
           ack = all.ack ∙ all.ticks ∙ ap (λ (n : ℕ). n + 4) has.clock ∙ ap (λ (logged : Bool). if logged then m.clock + 4 else 0) (sym all.logs);
           old = λ is_known. all.old_is ∙ ap (λ (x : Table). finite.get x (key_of op)) (tells is_known).table;
         };
-        calls = λ _. subst (λ (logged : Bool). MakesWriteCalls logged m.clock (ok_calls old.device.clock (append_calls old.log r))) (sym all.logs)
-            (subst (λ (c : ℕ). IsLogWrite c (ok_calls old.device.clock (append_calls old.log r))) has.clock (log_write old.device.clock old.log r all.can.room all.width));
+        calls = λ is_known. subst (λ (logged : Bool). MakesWriteCalls logged m.clock (ok_calls old.device.clock (append_calls old.log r))) (sym all.logs)
+            (subst (λ (c : ℕ). IsLogWrite c (ok_calls old.device.clock (append_calls old.log r))) has.clock (log_write old.device.clock old.log r ((tells is_known).at_rest (sym has.stopped ∙ all.can.going)).log_start all.can.room all.width));
         stops = refl;
         later = omega (arith, has.faults);
         faults = all.all.appends.later;
@@ -298,7 +300,7 @@ write-failed old now owner op r fails =
             let by : StoppedBy t.now now.story (ok_calls (clock_of t.now) plan) made = failed-by old.device.story now.story plan fails.stops t.now t.told in
             record {
               all = ok_calls (clock_of t.now) plan;
-              write = subst (λ (c : ℕ). IsLogWrite c (ok_calls (clock_of t.now) plan)) (sym t.clock ∙ has.clock) (log_write (clock_of t.now) old.log r fails.can.room fails.width);
+              write = subst (λ (c : ℕ). IsLogWrite c (ok_calls (clock_of t.now) plan)) (sym t.clock ∙ has.clock) (log_write (clock_of t.now) old.log r (t.at_rest (sym has.stopped ∙ fails.can.going)).log_start fails.can.room fails.width);
               left = by.left;
               front = by.first;
             };

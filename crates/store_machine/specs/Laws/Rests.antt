@@ -13,15 +13,17 @@ use Rattle.table_model.specs.Answers.{after_write}
 use Rattle.wal_log.specs.Places.{record_start, IsInLog}
 use Rattle.wal_log.specs.Segments.{Segments, segments_of}
 use Rattle.wal_log.specs.Rules.{Opens as LogOpens, records_of}
-use Rattle.wal_log.specs.State.{IsAtRest as LogAtRest, IsLogOf, HasRecordsOr, OpensAs, newest}
+use Rattle.wal_log.specs.State.{IsStill, IsAtRest as LogAtRest, IsLogOf, HasRecordsOr, OpensAs, newest}
 use Rattle.wal_log.specs.Laws.Agreeing.{segments-on_disk}
-use Rattle.wal_log.specs.declared.places.TheConstants.{LOG_START, MOST_RECORDS}
+use Rattle.wal_log.specs.declared.places.TheConstants.{MOST_RECORDS}
 use Rattle.wal_log.specs.declared.log.Log.{Log}
 use Rattle.wal_log.specs.declared.records.Record.{Record}
+use Rattle.image_model.specs.declared.places.TheConstants.{LOG_START}
 use Rattle.image_model.specs.Superblock.{IsFormatted}
 use Rattle.image_model.specs.Directory.{HasNoComponent}
 use Rattle.image_model.specs.Opening.{ends, IsLookedInSuperblock, IsSlotGate}
 use Rattle.image_model.specs.Recovered.{write_of, after_writes, replayed, Recovers}
+use Rattle.image_model.specs.Laws.Recovered.{replayed-push}
 use Rattle.image_model.specs.Laws.Agreeing.{formatted-same, directory-same}
 use Rattle.store_machine.specs.Standing.{DeviceState, IsAtRest}
 use Rattle.store_machine.specs.Laws.Crashes.{RecoversEither}
@@ -77,24 +79,17 @@ module _ (pages : ℕ) (s : Story) (calls : Calls) (front : HasFront pages s) (s
         directory-same (bytes_of s) image (λ i gate. there i (inr gate)) front.directory,
       )
 
-after_writes-push : (t : Table) (ws : List Write) (w : Write) → after_writes t (ws ++ w ∷ []) ≡ after_write (after_writes t ws) w
-after_writes-push t [] w = refl
-after_writes-push t (v ∷ ws) w = after_writes-push (after_write t v) ws w
-
-pub replayed-push : (t : Table) (rs : List Record) (r : Record) → replayed t (rs ++ r ∷ []) ≡ after_write (replayed t rs) (write_of r.op)
-replayed-push t rs r = ap (after_writes t) (map_push (λ (x : Record). write_of x.op) rs r) ∙ after_writes-push t (map (λ (x : Record). write_of x.op) rs) (write_of r.op)
-
 -- the gate of the next record
 abbrev pub gate_of : Log → ℕ
-gate_of log = record_start (newest log) log.records
+gate_of log = record_start log.start (newest log) log.records
 
-pub gate-in_log : (log : Log) → log.records < MOST_RECORDS → IsInLog (gate_of log) 97
+pub gate-in_log : (log : Log) → log.records < MOST_RECORDS → IsInLog log.start (gate_of log) 97
 gate-in_log log room = let below : newest log < 4 = mod_below log.generation 4 (omega arith) in record { from = omega (arith, below); to = omega (arith, below, room) }
 
 -- what an append promises, whether it failed or not
 pub record Appends (log : Log) (r : Record) (old now : DeviceState) : Type 0 where
-  pub recovers : WhereTold old.story (λ s. LogAtRest log s → IsLogOf log (segments_of (bytes_of s)) → (last : List ℕ) → LogOpens last (segments_of (bytes_of s))
-      → LeavesOnly s now.story (λ image. HasRecordsOr last (records_of (segments_of (bytes_of s))) r (segments_of image)))
+  pub recovers : WhereTold old.story (λ s. LogAtRest log s → IsLogOf log (segments_of log.start (bytes_of s)) → (last : List ℕ) → LogOpens last (segments_of log.start (bytes_of s))
+      → LeavesOnly s now.story (λ image. HasRecordsOr last (records_of (segments_of log.start (bytes_of s))) r (segments_of log.start image)))
   pub within : WhereTold old.story (λ s. WritesWithin (gate_of log) 97 s now.story)
   pub pages : now.pages ≡ old.pages
   pub clock_told : (s : Story) → now.story ≡ Some s → now.clock ≡ clock_of s
@@ -104,36 +99,51 @@ pub record Appends (log : Log) (r : Record) (old now : DeviceState) : Type 0 whe
 -- what it promises where it answered
 pub record AppendsAll (log next : Log) (r : Record) (old now : DeviceState) : Type 0 where
   pub appends : Appends log r old now
+  pub start : next.start ≡ log.start
   pub at_rest : WhereTold old.story (LogAtRest log) → WhereTold now.story (LogAtRest next)
-  pub log_of : WhereTold old.story (λ s. LogAtRest log s → IsLogOf log (segments_of (bytes_of s)) → WhereTold now.story (λ t. IsLogOf next (segments_of (bytes_of t))))
-  pub logged : WhereTold old.story (λ s. LogAtRest log s → IsLogOf log (segments_of (bytes_of s)) → (last : List ℕ) → LogOpens last (segments_of (bytes_of s))
-      → WhereTold now.story (λ t. OpensAs last (records_of (segments_of (bytes_of s)) ++ r ∷ []) (segments_of (bytes_of t))))
+  pub log_of : WhereTold old.story (λ s. LogAtRest log s → IsLogOf log (segments_of log.start (bytes_of s)) → WhereTold now.story (λ t. IsLogOf next (segments_of log.start (bytes_of t))))
+  pub logged : WhereTold old.story (λ s. LogAtRest log s → IsLogOf log (segments_of log.start (bytes_of s)) → (last : List ℕ) → LogOpens last (segments_of log.start (bytes_of s))
+      → WhereTold now.story (λ t. OpensAs last (records_of (segments_of log.start (bytes_of s)) ++ r ∷ []) (segments_of log.start (bytes_of t))))
 
 module _ (pages : ℕ) (log : Log) (r : Record) (table : Table) (old now : DeviceState) (s : Story) (is : old.story ≡ Some s) (rest : IsAtRest pages log table s) (calls : Calls) (told : now.story ≡ Some (after s calls)) where
   abbrev after_it : Table
   after_it = after_write table (write_of r.op)
 
-  either : (image : Bytes) → IsFormatted pages image × HasNoComponent image → HasRecordsOr ends (records_of (segments_of (bytes_of s))) r (segments_of image) → RecoversEither pages table after_it image
+  either : (image : Bytes) → IsFormatted pages image × HasNoComponent image → HasRecordsOr ends (records_of (segments_of LOG_START (bytes_of s))) r (segments_of LOG_START image) → RecoversEither pages table after_it image
   either image front (inl before) = inl (record {
     opens = record { formatted = front.0; directory = front.1; log = before.opens };
     table_is = ap (replayed empty) before.records_are ∙ rest.table_is;
   })
   either image front (inr behind) = inr (record {
     opens = record { formatted = front.0; directory = front.1; log = behind.opens };
-    table_is = ap (replayed empty) behind.records_are ∙ replayed-push empty (records_of (segments_of (bytes_of s))) r ∙ ap (λ (t : Table). after_write t (write_of r.op)) rest.table_is;
+    table_is = ap (replayed empty) behind.records_are ∙ replayed-push empty (records_of (segments_of LOG_START (bytes_of s))) r ∙ ap (λ (t : Table). after_write t (write_of r.op)) rest.table_is;
   })
 
   -- the calls of an append spare what stands before the log
   spares : (within : WritesWithin (gate_of log) 97 s now.story) → log.records < MOST_RECORDS → (i : ℕ) → i < LOG_START → AreSpared within.calls i
-  spares within room i lt = within.spared i (inl (let place : IsInLog (gate_of log) 97 = gate-in_log log room in omega (arith, lt, place.from)))
+  spares within room i lt = within.spared i (inl (let place : IsInLog log.start (gate_of log) 97 = gate-in_log log room in omega (arith, lt, place.from, rest.log_start)))
+
+  -- what an append promises, of a log at this place
+  abbrev RecoversAt : ℕ → Type 0
+  RecoversAt at =
+      IsLogOf log (segments_of at (bytes_of s)) → (last : List ℕ) → LogOpens last (segments_of at (bytes_of s))
+      → LeavesOnly s now.story (λ image. HasRecordsOr last (records_of (segments_of at (bytes_of s))) r (segments_of at image))
+
+  abbrev LoggedAt : ℕ → Type 0
+  LoggedAt at =
+      IsLogOf log (segments_of at (bytes_of s)) → (last : List ℕ) → LogOpens last (segments_of at (bytes_of s))
+      → OpensAs last (records_of (segments_of at (bytes_of s)) ++ r ∷ []) (segments_of at (bytes_of (after s calls)))
+
+  abbrev IsLogAt : Log → ℕ → Type 0
+  IsLogAt next at = IsLogOf log (segments_of at (bytes_of s)) → IsLogOf next (segments_of at (bytes_of (after s calls)))
 
   -- each image of each moment of an append has the table before it, or the one after it
   pub either-images : Appends log r old now → EachMoment (clock_of s) (after s calls) (λ _. RecoversEither pages table after_it)
   either-images appends m le_from le_to image im =
-      let leaves : LeavesOnly s now.story (λ x. HasRecordsOr ends (records_of (segments_of (bytes_of s))) r (segments_of x)) = appends.recovers s is rest.log_rest rest.log_of ends rest.log_opens in
+      let leaves : LeavesOnly s now.story (λ x. HasRecordsOr ends (records_of (segments_of LOG_START (bytes_of s))) r (segments_of LOG_START x)) = subst RecoversAt rest.log_start (appends.recovers s is rest.log_rest) rest.log_of ends rest.log_opens in
       let within : WritesWithin (gate_of log) 97 s now.story = appends.within s is in
-      let records : EachMoment (clock_of s) (after s calls) (λ _ x. HasRecordsOr ends (records_of (segments_of (bytes_of s))) r (segments_of x)) =
-      subst (λ (u : Story). EachMoment (clock_of s) u (λ _ x. HasRecordsOr ends (records_of (segments_of (bytes_of s))) r (segments_of x))) (same_Some _ _ (sym leaves.told ∙ told)) leaves.each in
+      let records : EachMoment (clock_of s) (after s calls) (λ _ x. HasRecordsOr ends (records_of (segments_of LOG_START (bytes_of s))) r (segments_of LOG_START x)) =
+      subst (λ (u : Story). EachMoment (clock_of s) u (λ _ x. HasRecordsOr ends (records_of (segments_of LOG_START (bytes_of s))) r (segments_of LOG_START x))) (same_Some _ _ (sym leaves.told ∙ told)) leaves.each in
       let front : EachMoment (clock_of s) (after s calls) (λ _ x. IsFormatted pages x × HasNoComponent x) =
       subst (λ (u : Story). EachMoment (clock_of s) u (λ _ x. IsFormatted pages x × HasNoComponent x)) (same_Some _ _ (sym within.told ∙ told))
       (front-images pages s within.calls (front_of pages log table s rest) (spares within appends.room)) in
@@ -145,22 +155,24 @@ module _ (pages : ℕ) (log : Log) (r : Record) (table : Table) (old now : Devic
       let within : WritesWithin (gate_of log) 97 s now.story = all.appends.within s is in
       let front : HasFront pages (after s calls) =
       subst (HasFront pages) (same_Some _ _ (sym within.told ∙ told)) (front-stays pages s within.calls (front_of pages log table s rest) (spares within all.appends.room)) in
-      let logged : OpensAs ends (records_of (segments_of (bytes_of s)) ++ r ∷ []) (segments_of (bytes_of (after s calls))) = all.logged s is rest.log_rest rest.log_of ends rest.log_opens (after s calls) told in
+      let logged : OpensAs ends (records_of (segments_of LOG_START (bytes_of s)) ++ r ∷ []) (segments_of LOG_START (bytes_of (after s calls))) =
+      subst LoggedAt rest.log_start (λ of last opens. all.logged s is rest.log_rest of last opens (after s calls) told) rest.log_of ends rest.log_opens in
       record {
         formatted = front.formatted;
         directory = front.directory;
         superblock_calm = front.superblock_calm;
         directory_calm = front.directory_calm;
+        log_start = all.start ∙ rest.log_start;
         log_rest = all.at_rest (λ x is_x. subst (LogAtRest log) (same_Some _ _ (sym is ∙ is_x)) rest.log_rest) (after s calls) told;
-        log_of = all.log_of s is rest.log_rest rest.log_of (after s calls) told;
+        log_of = subst (IsLogAt next) rest.log_start (λ of. all.log_of s is rest.log_rest of (after s calls) told) rest.log_of;
         log_opens = logged.opens;
-        table_is = ap (replayed empty) logged.records_are ∙ replayed-push empty (records_of (segments_of (bytes_of s))) r ∙ ap (λ (t : Table). after_write t (write_of r.op)) rest.table_is;
+        table_is = ap (replayed empty) logged.records_are ∙ replayed-push empty (records_of (segments_of LOG_START (bytes_of s))) r ∙ ap (λ (t : Table). after_write t (write_of r.op)) rest.table_is;
       }
 
 -- what a crash leaves of a store at rest
 pub recovers-now : (pages : ℕ) (log : Log) (table : Table) (s : Story) (image : Bytes) → IsAtRest pages log table s → IsImageNow s image → Recovers pages table image
 recovers-now pages log table s image rest is =
-    let segments : segments_of image ≡ segments_of (bytes_of s) = segments-on_disk s image rest.log_rest.still is in
+    let segments : segments_of LOG_START image ≡ segments_of LOG_START (bytes_of s) = segments-on_disk LOG_START s image (subst (λ (at : ℕ). IsStill at s) rest.log_start rest.log_rest.still) is in
     record {
       opens = record {
         formatted = formatted-same pages (bytes_of s) image (λ i looked. is i (rest.superblock_calm i looked)) rest.formatted;

@@ -99,62 +99,62 @@ open_records-gated (body ∷ bodies) (suc places) at a less wide there =
     open_records-open places at a gate ∙ (λ j. first j ∷ rest j)
 
 -- behind the records there is a closed gate
-pub segment_records-end : (k count : ℕ) (a : Bytes) → length (segment_records k a) ≡ count → count ≤ 2048 → a (record_start k count) ≢ 165
+pub segment_records-end : (log_start k count : ℕ) (a : Bytes) → length (segment_records log_start k a) ≡ count → count ≤ 2048 → a (record_start log_start k count) ≢ 165
 unfolding segment_records
-segment_records-end k count a counts few is =
-    let place : segment_start k + 64 + 96 * length (segment_records k a) ≡ record_start k count = omega (arith, counts) in
-    open_records-end 2049 (segment_start k + 64) a (omega (arith, counts)) (ap a place ∙ is)
+segment_records-end log_start k count a counts few is =
+    let place : segment_start log_start k + 64 + 96 * length (segment_records log_start k a) ≡ record_start log_start k count = omega (arith, counts) in
+    open_records-end 2049 (segment_start log_start k + 64) a (omega (arith, counts)) (ap a place ∙ is)
 
-pub segment_records-few : (k : ℕ) (a : Bytes) → length (segment_records k a) ≤ 2049
+pub segment_records-few : (log_start k : ℕ) (a : Bytes) → length (segment_records log_start k a) ≤ 2049
 unfolding segment_records
-segment_records-few k a = open_records-few 2049 (segment_start k + 64) a
+segment_records-few log_start k a = open_records-few 2049 (segment_start log_start k + 64) a
 
-pub segment_at-open : (k : ℕ) (a : Bytes) → a (segment_start k) ≡ 165 → segment_at k a ≡ Some (record { header = segment_header k a; records = segment_records k a })
-segment_at-open k a is = grind (arith, nat_tests)
+pub segment_at-open : (log_start k : ℕ) (a : Bytes) → a (segment_start log_start k) ≡ 165 → segment_at log_start k a ≡ Some (record { header = segment_header log_start k a; records = segment_records log_start k a })
+segment_at-open log_start k a is = grind (arith, nat_tests)
 
-pub segment_at-shut : (k : ℕ) (a : Bytes) → a (segment_start k) ≢ 165 → segment_at k a ≡ None
-segment_at-shut k a shut = grind (arith, nat_tests)
+pub segment_at-shut : (log_start k : ℕ) (a : Bytes) → a (segment_start log_start k) ≢ 165 → segment_at log_start k a ≡ None
+segment_at-shut log_start k a shut = grind (arith, nat_tests)
 
-module _ (k : ℕ) (a b : Bytes) where
-  pub segment_header-same : ((i : ℕ) → segment_start k < i → i < segment_start k + 64 → b i ≡ a i) → segment_header k b ≡ segment_header k a
+module _ (log_start k : ℕ) (a b : Bytes) where
+  pub segment_header-same : ((i : ℕ) → segment_start log_start k < i → i < segment_start log_start k + 64 → b i ≡ a i) → segment_header log_start k b ≡ segment_header log_start k a
   unfolding segment_header
-  segment_header-same same = part-same (segment_start k + 1) 63 b a (λ i low high. same i (omega arith) (omega arith))
+  segment_header-same same = part-same (segment_start log_start k + 1) 63 b a (λ i low high. same i (omega arith) (omega arith))
 
   -- what stands behind the records of the first is read as in the second
-  pub segment_records-front : (count places : ℕ) → length (segment_records k a) ≡ count → 2049 ≡ count + places
-      → ((i : ℕ) → segment_start k + 64 ≤ i → i < record_start k count → b i ≡ a i)
-      → segment_records k b ≡ segment_records k a ++ open_records places (record_start k count) b
+  pub segment_records-front : (count places : ℕ) → length (segment_records log_start k a) ≡ count → 2049 ≡ count + places
+      → ((i : ℕ) → segment_start log_start k + 64 ≤ i → i < record_start log_start k count → b i ≡ a i)
+      → segment_records log_start k b ≡ segment_records log_start k a ++ open_records places (record_start log_start k count) b
   unfolding segment_records
-  segment_records-front count places counts is same = open_records-front count places 2049 (segment_start k + 64) a b is counts same
+  segment_records-front count places counts is same = open_records-front count places 2049 (segment_start log_start k + 64) a b is counts same
 
-  module _ (count : ℕ) (counts : length (segment_records k a) ≡ count) (started : a (segment_start k) ≡ 165)
-      (same : (i : ℕ) → segment_start k ≤ i → i < record_start k count → b i ≡ a i) where
-    header : segment_header k b ≡ segment_header k a
+  module _ (count : ℕ) (counts : length (segment_records log_start k a) ≡ count) (started : a (segment_start log_start k) ≡ 165)
+      (same : (i : ℕ) → segment_start log_start k ≤ i → i < record_start log_start k count → b i ≡ a i) where
+    header : segment_header log_start k b ≡ segment_header log_start k a
     header = segment_header-same (λ i low high. same i (omega arith) (omega arith))
 
-    gate : b (segment_start k) ≡ 165
-    gate = same (segment_start k) (omega arith) (omega arith) ∙ started
+    gate : b (segment_start log_start k) ≡ 165
+    gate = same (segment_start log_start k) (omega arith) (omega arith) ∙ started
 
     -- a closed gate behind the records: the segment is the same
-    pub segment_at-kept : count ≤ 2048 → b (record_start k count) ≢ 165 → segment_at k b ≡ segment_at k a
+    pub segment_at-kept : count ≤ 2048 → b (record_start log_start k count) ≢ 165 → segment_at log_start k b ≡ segment_at log_start k a
     segment_at-kept few shut =
-        let front : segment_records k b ≡ segment_records k a ++ open_records (2049 - count) (record_start k count) b = segment_records-front count (2049 - count) counts (omega arith) (λ i low high. same i (omega arith) high) in
-        let records : segment_records k b ≡ segment_records k a =
-        front ∙ ap (λ (l : List (List ℕ)). segment_records k a ++ l) (open_records-shut (2049 - count) (record_start k count) b shut) ∙ append-nil (segment_records k a) in
-        segment_at-open k b gate ∙ (λ j. Some (record { header = header j; records = records j })) ∙ sym (segment_at-open k a started)
+        let front : segment_records log_start k b ≡ segment_records log_start k a ++ open_records (2049 - count) (record_start log_start k count) b = segment_records-front count (2049 - count) counts (omega arith) (λ i low high. same i (omega arith) high) in
+        let records : segment_records log_start k b ≡ segment_records log_start k a =
+        front ∙ ap (λ (l : List (List ℕ)). segment_records log_start k a ++ l) (open_records-shut (2049 - count) (record_start log_start k count) b shut) ∙ append-nil (segment_records log_start k a) in
+        segment_at-open log_start k b gate ∙ (λ j. Some (record { header = header j; records = records j })) ∙ sym (segment_at-open log_start k a started)
 
     -- records behind them, and a closed gate behind these
-    pub segment_records-grown : (bodies : List (List ℕ)) → count + length bodies ≤ 2048 → AreWide bodies → Holds (record_start k count) (gated bodies) b
-        → segment_records k b ≡ segment_records k a ++ bodies
+    pub segment_records-grown : (bodies : List (List ℕ)) → count + length bodies ≤ 2048 → AreWide bodies → Holds (record_start log_start k count) (gated bodies) b
+        → segment_records log_start k b ≡ segment_records log_start k a ++ bodies
     segment_records-grown bodies room wide there =
-        let front : segment_records k b ≡ segment_records k a ++ open_records (2049 - count) (record_start k count) b = segment_records-front count (2049 - count) counts (omega (arith, room)) (λ i low high. same i (omega arith) high) in
-        front ∙ ap (λ (l : List (List ℕ)). segment_records k a ++ l) (open_records-gated bodies (2049 - count) (record_start k count) b (omega (arith, room)) wide there)
+        let front : segment_records log_start k b ≡ segment_records log_start k a ++ open_records (2049 - count) (record_start log_start k count) b = segment_records-front count (2049 - count) counts (omega (arith, room)) (λ i low high. same i (omega arith) high) in
+        front ∙ ap (λ (l : List (List ℕ)). segment_records log_start k a ++ l) (open_records-gated bodies (2049 - count) (record_start log_start k count) b (omega (arith, room)) wide there)
 
-    pub segment_at-grown : (bodies : List (List ℕ)) → count + length bodies ≤ 2048 → AreWide bodies → Holds (record_start k count) (gated bodies) b
-        → segment_at k b ≡ with_records bodies (segment_at k a)
+    pub segment_at-grown : (bodies : List (List ℕ)) → count + length bodies ≤ 2048 → AreWide bodies → Holds (record_start log_start k count) (gated bodies) b
+        → segment_at log_start k b ≡ with_records bodies (segment_at log_start k a)
     segment_at-grown bodies room wide there =
-        let records : segment_records k b ≡ segment_records k a ++ bodies = segment_records-grown bodies room wide there in
-        segment_at-open k b gate ∙ (λ j. Some (record { header = header j; records = records j })) ∙ ap (with_records bodies) (sym (segment_at-open k a started))
+        let records : segment_records log_start k b ≡ segment_records log_start k a ++ bodies = segment_records-grown bodies room wide there in
+        segment_at-open log_start k b gate ∙ (λ j. Some (record { header = header j; records = records j })) ∙ ap (with_records bodies) (sym (segment_at-open log_start k a started))
 
 -- agreement at all that is looked at
 open_records-same : (places at : ℕ) (a b : Bytes) → ((i : ℕ) → at ≤ i → i ≤ at + 96 * length (open_records places at a) → b i ≡ a i) → open_records places at b ≡ open_records places at a
@@ -172,77 +172,80 @@ open_records-same (suc places) at a b same = elim (cases_eq (a at) 165) [
       open_records-shut (suc places) at b (λ is. shut (sym (same at (omega arith) (omega arith)) ∙ is)) ∙ sym (open_records-shut (suc places) at a shut)
 ]
 
-pub segment_at-same : (k : ℕ) (a b : Bytes) → ((i : ℕ) → IsLooked k a i → b i ≡ a i) → segment_at k b ≡ segment_at k a
+pub segment_at-same : (log_start k : ℕ) (a b : Bytes) → ((i : ℕ) → IsLooked log_start k a i → b i ≡ a i) → segment_at log_start k b ≡ segment_at log_start k a
 unfolding segment_records
-segment_at-same k a b same = elim (cases_eq (a (segment_start k)) 165) [
+segment_at-same log_start k a b same = elim (cases_eq (a (segment_start log_start k)) 165) [
   | inl is ↦
-      let looked : (i : ℕ) → segment_start k ≤ i → i ≤ record_start k (length (segment_records k a)) → b i ≡ a i = λ i low high. same i (inr (is, low, high)) in
-      let header : segment_header k b ≡ segment_header k a = segment_header-same k a b (λ i low high. looked i (omega arith) (omega arith)) in
-      let records : segment_records k b ≡ segment_records k a = open_records-same 2049 (segment_start k + 64) a b (λ i low high. looked i (omega arith) high) in
-      let gate : b (segment_start k) ≡ a (segment_start k) = looked (segment_start k) (omega arith) (omega arith) in
+      let looked : (i : ℕ) → segment_start log_start k ≤ i → i ≤ record_start log_start k (length (segment_records log_start k a)) → b i ≡ a i = λ i low high. same i (inr (is, low, high)) in
+      let header : segment_header log_start k b ≡ segment_header log_start k a = segment_header-same log_start k a b (λ i low high. looked i (omega arith) (omega arith)) in
+      let records : segment_records log_start k b ≡ segment_records log_start k a = open_records-same 2049 (segment_start log_start k + 64) a b (λ i low high. looked i (omega arith) high) in
+      let gate : b (segment_start log_start k) ≡ a (segment_start log_start k) = looked (segment_start log_start k) (omega arith) (omega arith) in
       (λ j. if gate j == 165 then Some (record { header = header j; records = records j }) else None)
   | inr shut ↦
-      segment_at-shut k b (λ is. shut (sym (same (segment_start k) (inl refl)) ∙ is)) ∙ sym (segment_at-shut k a shut)
+      segment_at-shut log_start k b (λ is. shut (sym (same (segment_start log_start k) (inl refl)) ∙ is)) ∙ sym (segment_at-shut log_start k a shut)
 ]
 
--- where all that is looked at agrees, no more is looked at
-pub looked-back : (k : ℕ) (a b : Bytes) → ((i : ℕ) → IsLooked k a i → b i ≡ a i) → (i : ℕ) → IsLooked k b i → IsLooked k a i
+pub segment_records-same : (log_start k : ℕ) (a b : Bytes) → a (segment_start log_start k) ≡ 165 → ((i : ℕ) → IsLooked log_start k a i → b i ≡ a i) → segment_records log_start k b ≡ segment_records log_start k a
 unfolding segment_records
-looked-back k a b same i looked = elim (cases_eq (a (segment_start k)) 165) [
+segment_records-same log_start k a b started same = open_records-same 2049 (segment_start log_start k + 64) a b (λ i low high. same i (inr (started, omega arith, high)))
+
+-- where all that is looked at agrees, no more is looked at
+pub looked-back : (log_start k : ℕ) (a b : Bytes) → ((i : ℕ) → IsLooked log_start k a i → b i ≡ a i) → (i : ℕ) → IsLooked log_start k b i → IsLooked log_start k a i
+looked-back log_start k a b same i looked = elim (cases_eq (a (segment_start log_start k)) 165) [
   | inl is ↦
-      let records : segment_records k b ≡ segment_records k a = open_records-same 2049 (segment_start k + 64) a b (λ n low high. same n (inr (is, omega arith, high))) in
+      let records : segment_records log_start k b ≡ segment_records log_start k a = segment_records-same log_start k a b is same in
       ⊎_elim (λ here. inl here) (λ in_it. inr (is, in_it.1, omega (arith, in_it.2, ap length records))) looked
-  | inr shut ↦ ⊎_elim (λ here. inl here) (λ in_it. absurd (shut (sym (same (segment_start k) (inl refl)) ∙ in_it.0))) looked
+  | inr shut ↦ ⊎_elim (λ here. inl here) (λ in_it. absurd (shut (sym (same (segment_start log_start k) (inl refl)) ∙ in_it.0))) looked
 ]
 
 -- the four segments, one by one
-pub segments_of-same : (a b : Bytes) → ((j : ℕ) → j < 4 → segment_at j b ≡ segment_at j a) → segments_of b ≡ segments_of a
-segments_of-same a b same i = same 0 (omega arith) i ∷ same 1 (omega arith) i ∷ same 2 (omega arith) i ∷ same 3 (omega arith) i ∷ []
+pub segments_of-same : (log_start : ℕ) (a b : Bytes) → ((j : ℕ) → j < 4 → segment_at log_start j b ≡ segment_at log_start j a) → segments_of log_start b ≡ segments_of log_start a
+segments_of-same log_start a b same i = same 0 (omega arith) i ∷ same 1 (omega arith) i ∷ same 2 (omega arith) i ∷ same 3 (omega arith) i ∷ []
 
-pub segments_of-at : (k : ℕ) (a : Bytes) → k < 4 → get_or (segments_of a) k None ≡ segment_at k a
-segments_of-at zero a lt = refl
-segments_of-at (suc zero) a lt = refl
-segments_of-at (suc (suc zero)) a lt = refl
-segments_of-at (suc (suc (suc zero))) a lt = refl
-segments_of-at (suc (suc (suc (suc k)))) a lt = absurd (omega arith)
+pub segments_of-at : (log_start k : ℕ) (a : Bytes) → k < 4 → get_or (segments_of log_start a) k None ≡ segment_at log_start k a
+segments_of-at log_start zero a lt = refl
+segments_of-at log_start (suc zero) a lt = refl
+segments_of-at log_start (suc (suc zero)) a lt = refl
+segments_of-at log_start (suc (suc (suc zero))) a lt = refl
+segments_of-at log_start (suc (suc (suc (suc k)))) a lt = absurd (omega arith)
 
-pub segments_of-set : (k : ℕ) (a b : Bytes) (new : Option Segment) → k < 4 → segment_at k b ≡ new → ((j : ℕ) → j < 4 → j ≢ k → segment_at j b ≡ segment_at j a) → segments_of b ≡ set (segments_of a) k new
-segments_of-set zero a b new lt there same = λ i. there i ∷ same 1 (omega arith) (omega arith) i ∷ same 2 (omega arith) (omega arith) i ∷ same 3 (omega arith) (omega arith) i ∷ []
-segments_of-set (suc zero) a b new lt there same = λ i. same 0 (omega arith) (omega arith) i ∷ there i ∷ same 2 (omega arith) (omega arith) i ∷ same 3 (omega arith) (omega arith) i ∷ []
-segments_of-set (suc (suc zero)) a b new lt there same = λ i. same 0 (omega arith) (omega arith) i ∷ same 1 (omega arith) (omega arith) i ∷ there i ∷ same 3 (omega arith) (omega arith) i ∷ []
-segments_of-set (suc (suc (suc zero))) a b new lt there same = λ i. same 0 (omega arith) (omega arith) i ∷ same 1 (omega arith) (omega arith) i ∷ same 2 (omega arith) (omega arith) i ∷ there i ∷ []
-segments_of-set (suc (suc (suc (suc k)))) a b new lt there same = absurd (omega arith)
+pub segments_of-set : (log_start k : ℕ) (a b : Bytes) (new : Option Segment) → k < 4 → segment_at log_start k b ≡ new → ((j : ℕ) → j < 4 → j ≢ k → segment_at log_start j b ≡ segment_at log_start j a) → segments_of log_start b ≡ set (segments_of log_start a) k new
+segments_of-set log_start zero a b new lt there same = λ i. there i ∷ same 1 (omega arith) (omega arith) i ∷ same 2 (omega arith) (omega arith) i ∷ same 3 (omega arith) (omega arith) i ∷ []
+segments_of-set log_start (suc zero) a b new lt there same = λ i. same 0 (omega arith) (omega arith) i ∷ there i ∷ same 2 (omega arith) (omega arith) i ∷ same 3 (omega arith) (omega arith) i ∷ []
+segments_of-set log_start (suc (suc zero)) a b new lt there same = λ i. same 0 (omega arith) (omega arith) i ∷ same 1 (omega arith) (omega arith) i ∷ there i ∷ same 3 (omega arith) (omega arith) i ∷ []
+segments_of-set log_start (suc (suc (suc zero))) a b new lt there same = λ i. same 0 (omega arith) (omega arith) i ∷ same 1 (omega arith) (omega arith) i ∷ same 2 (omega arith) (omega arith) i ∷ there i ∷ []
+segments_of-set log_start (suc (suc (suc (suc k)))) a b new lt there same = absurd (omega arith)
 
 -- what is looked at in another segment stands before or behind this one
-pub looked-elsewhere : (j k i : ℕ) (a : Bytes) → j ≢ k → IsLooked j a i → (i < segment_start k) ⊎ (segment_start k + 262144 ≤ i)
-looked-elsewhere j k i a unlike looked =
-    let low : segment_start j ≤ i = ⊎_elim (λ here. omega (arith, here)) (λ in_it. in_it.1) looked in
-    let high : i < segment_start j + 262144 = ⊎_elim (λ here. omega (arith, here)) (λ in_it. omega (arith, in_it.2, segment_records-few j a)) looked in
+pub looked-elsewhere : (log_start j k i : ℕ) (a : Bytes) → j ≢ k → IsLooked log_start j a i → (i < segment_start log_start k) ⊎ (segment_start log_start k + 262144 ≤ i)
+looked-elsewhere log_start j k i a unlike looked =
+    let low : segment_start log_start j ≤ i = ⊎_elim (λ here. omega (arith, here)) (λ in_it. in_it.1) looked in
+    let high : i < segment_start log_start j + 262144 = ⊎_elim (λ here. omega (arith, here)) (λ in_it. omega (arith, in_it.2, segment_records-few log_start j a)) looked in
     ⊎_elim (λ before. inl (omega arith)) (λ behind. inr (omega arith)) (sides j k unlike)
   where
     sides : (j k : ℕ) → j ≢ k → (j < k) ⊎ (k < j)
     sides j k unlike = grind arith
 
 -- Bytes that agree at what is looked at outside of one segment give the same other segments.
-pub segments-elsewhere : (k : ℕ) (a b : Bytes) → ((i : ℕ) → (i < segment_start k) ⊎ (segment_start k + 262144 ≤ i) → (j : ℕ) → j < 4 → IsLooked j a i → b i ≡ a i)
-    → (j : ℕ) → j < 4 → j ≢ k → segment_at j b ≡ segment_at j a
-segments-elsewhere k a b same j lt unlike = segment_at-same j a b (λ i looked. same i (looked-elsewhere j k i a unlike looked) j lt looked)
+pub segments-elsewhere : (log_start k : ℕ) (a b : Bytes) → ((i : ℕ) → (i < segment_start log_start k) ⊎ (segment_start log_start k + 262144 ≤ i) → (j : ℕ) → j < 4 → IsLooked log_start j a i → b i ≡ a i)
+    → (j : ℕ) → j < 4 → j ≢ k → segment_at log_start j b ≡ segment_at log_start j a
+segments-elsewhere log_start k a b same j lt unlike = segment_at-same log_start j a b (λ i looked. same i (looked-elsewhere log_start j k i a unlike looked) j lt looked)
 
-pub segments_of-at_one : (k : ℕ) (a b : Bytes) → segment_at k b ≡ segment_at k a → ((j : ℕ) → j < 4 → j ≢ k → segment_at j b ≡ segment_at j a) → segments_of b ≡ segments_of a
-segments_of-at_one k a b here rest =
-    segments_of-same a b (λ j lt. elim (cases_eq j k) [
-      | inl is ↦ subst (λ (n : ℕ). segment_at n b ≡ segment_at n a) (sym is) here
+pub segments_of-at_one : (log_start k : ℕ) (a b : Bytes) → segment_at log_start k b ≡ segment_at log_start k a → ((j : ℕ) → j < 4 → j ≢ k → segment_at log_start j b ≡ segment_at log_start j a) → segments_of log_start b ≡ segments_of log_start a
+segments_of-at_one log_start k a b here rest =
+    segments_of-same log_start a b (λ j lt. elim (cases_eq j k) [
+      | inl is ↦ subst (λ (n : ℕ). segment_at log_start n b ≡ segment_at log_start n a) (sym is) here
       | inr unlike ↦ rest j lt unlike
     ])
 
 -- a started segment without records
-pub segment_at-started : (k : ℕ) (a : Bytes) (header : List ℕ) → a (segment_start k) ≡ 165 → part (segment_start k + 1) 63 a ≡ header → a (segment_start k + 64) ≢ 165
-    → (segment_at k a ≡ Some (record { header = header; records = [] })) × (segment_records k a ≡ [])
+pub segment_at-started : (log_start k : ℕ) (a : Bytes) (header : List ℕ) → a (segment_start log_start k) ≡ 165 → part (segment_start log_start k + 1) 63 a ≡ header → a (segment_start log_start k + 64) ≢ 165
+    → (segment_at log_start k a ≡ Some (record { header = header; records = [] })) × (segment_records log_start k a ≡ [])
 unfolding segment_header segment_records
-segment_at-started k a header is there shut =
-    let none : segment_records k a ≡ [] = open_records-shut 2049 (segment_start k + 64) a shut in
-    (segment_at-open k a is ∙ (λ j. Some (record { header = there j; records = none j })), none)
+segment_at-started log_start k a header is there shut =
+    let none : segment_records log_start k a ≡ [] = open_records-shut 2049 (segment_start log_start k + 64) a shut in
+    (segment_at-open log_start k a is ∙ (λ j. Some (record { header = there j; records = none j })), none)
 
 -- all that is looked at is on the disk: each image of the present moment has the same segments
-pub segments-on_disk : (s : Story) (image : Bytes) → IsStill s → IsImageNow s image → segments_of image ≡ segments_of (bytes_of s)
-segments-on_disk s image still is = segments_of-same (bytes_of s) image (λ j lt. segment_at-same j (bytes_of s) image (λ i looked. is i (still j lt i looked)))
+pub segments-on_disk : (log_start : ℕ) (s : Story) (image : Bytes) → IsStill log_start s → IsImageNow s image → segments_of log_start image ≡ segments_of log_start (bytes_of s)
+segments-on_disk log_start s image still is = segments_of-same log_start (bytes_of s) image (λ j lt. segment_at-same log_start j (bytes_of s) image (λ i looked. is i (still j lt i looked)))

@@ -1,7 +1,8 @@
 use Rattle.std.proofs.Common.{[], ◌∷◌, ◌++◌, rules}
 use Rattle.dev_model.specs.Story.{Sync, HasStoppedIn}
 use Rattle.dev_model.specs.Laws.Plans.{Did-call}
-use Rattle.image_model.specs.Directory.{slot_start}
+use Rattle.comp_dir.specs.Places.{slot_start}
+use Rattle.image_model.specs.declared.places.TheConstants.{LOG_START}
 use Rattle.wal_log.specs.Places.{segment_start}
 use Rattle.device_format.specs.Planning.{close_each, close_gates}
 use Rattle.device_format.proofs.Joining.{stopped_first, stopped_behind, did_both}
@@ -10,18 +11,18 @@ use Rattle.device_format.proofs.gates.close_gates.Goals as goal
 pub returns-in_err-close_slots-clause-did : goal.returns-in_err-close_slots-clause-did
 returns-in_err-close_slots-clause-did g c =
     let stopped : HasStoppedIn close_gates (g.D.Device.story c.args.device.now) (g.D.Device.story c.close_slots.new.device) =
-    stopped_first (close_each slot_start 512) (close_each segment_start 4 ++ Sync ∷ []) (g.D.Device.story c.args.device.now) (g.D.Device.story c.close_slots.new.device) c.in_err-close_slots.ensures.did in
+    stopped_first (close_each slot_start 512) (close_each (segment_start LOG_START) 4 ++ Sync ∷ []) (g.D.Device.story c.args.device.now) (g.D.Device.story c.close_slots.new.device) c.in_err-close_slots.ensures.did in
     search rules
 
 pub returns-in_err-close_headers-clause-did : goal.returns-in_err-close_headers-clause-did
 returns-in_err-close_headers-clause-did g c =
     let stopped : HasStoppedIn close_gates (g.D.Device.story c.args.device.now) (g.D.Device.story c.close_headers.new.device) =
-    stopped_behind (close_each slot_start 512) (close_each segment_start 4 ++ Sync ∷ []) (g.D.Device.story c.args.device.now) (g.D.Device.story c.close_slots.new.device) (g.D.Device.story c.close_headers.new.device) c.in_ok-close_slots.ensures.did
-    (stopped_first (close_each segment_start 4) (Sync ∷ []) (g.D.Device.story c.close_slots.new.device) (g.D.Device.story c.close_headers.new.device) c.in_err-close_headers.ensures.did) in
+    stopped_behind (close_each slot_start 512) (close_each (segment_start LOG_START) 4 ++ Sync ∷ []) (g.D.Device.story c.args.device.now) (g.D.Device.story c.close_slots.new.device) (g.D.Device.story c.close_headers.new.device) c.in_ok-close_slots.ensures.did
+    (stopped_first (close_each (segment_start LOG_START) 4) (Sync ∷ []) (g.D.Device.story c.close_slots.new.device) (g.D.Device.story c.close_headers.new.device) c.in_err-close_headers.ensures.did) in
     search rules
 
 pub returns-clause-did : goal.returns-clause-did
 returns-clause-did g c =
-    did_both (close_each slot_start 512) (close_each segment_start 4 ++ Sync ∷ []) (g.D.Device.story c.args.device.now) (g.D.Device.story c.close_slots.new.device) (g.D.Device.story c.sync.new.self) c.sync.result c.in_ok-close_slots.ensures.did
-    (did_both (close_each segment_start 4) (Sync ∷ []) (g.D.Device.story c.close_slots.new.device) (g.D.Device.story c.close_headers.new.device) (g.D.Device.story c.sync.new.self) c.sync.result c.in_ok-close_headers.ensures.did
+    did_both (close_each slot_start 512) (close_each (segment_start LOG_START) 4 ++ Sync ∷ []) (g.D.Device.story c.args.device.now) (g.D.Device.story c.close_slots.new.device) (g.D.Device.story c.sync.new.self) c.sync.result c.in_ok-close_slots.ensures.did
+    (did_both (close_each (segment_start LOG_START) 4) (Sync ∷ []) (g.D.Device.story c.close_slots.new.device) (g.D.Device.story c.close_headers.new.device) (g.D.Device.story c.sync.new.self) c.sync.result c.in_ok-close_headers.ensures.did
     (Did-call _ _ Sync (g.D.Device.story c.close_headers.new.device) (g.D.Device.story c.sync.new.self) c.sync.result c.sync.ensures.told))

@@ -1,5 +1,5 @@
 use Rattle.std.proofs.Common.{ℕ, ◌+◌, ◌*◌, ap, arith, rules}
-use Rattle.image_model.specs.Directory.{slot_start}
+use Rattle.comp_dir.specs.Places.{slot_start}
 use Rattle.dev_model.specs.Story.{HasStoppedIn}
 use Rattle.device_format.specs.Planning.{close_each}
 use Rattle.device_format.proofs.Closing.{close_stopped}

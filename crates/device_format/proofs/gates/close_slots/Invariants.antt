@@ -1,6 +1,6 @@
 use Rattle.std.proofs.Common.{◌≡◌, ◌≤◌, ◌+◌}
 use Rattle.dev_model.specs.Story.{all_noted}
-use Rattle.image_model.specs.Directory.{slot_start}
+use Rattle.comp_dir.specs.Places.{slot_start}
 use Rattle.device_format.specs.Planning.{close_each}
 use Rattle.device_format.proofs.gates.close_slots.Given as goal
 

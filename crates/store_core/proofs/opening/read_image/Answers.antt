@@ -28,7 +28,7 @@ pub returns-in-Ok-read_all-clause-read : goal.returns-in-Ok-read_all-clause-read
 returns-in-Ok-read_all-clause-read g c s is calm =
     image-read (g.D.Device.pages c.args.device.now) c.in-Ok.indexes (g.D.Device.story c.args.device.now) (g.D.Device.story c.read_superblock.new.device) (g.D.Device.story c.read_directory.new.device)
     (record { first = c.in-Ok.ensures.reads; second = c.in_default.ensures.reads; formatted = c.in-Ok.ensures.formatted; closed = c.in_default.ensures.closed }) s is calm
-    (g.D.Device.story c.read_all.new.device) c.in-Ok-read_all.log c.in-Ok-read_all.records.items
+    (g.D.Device.story c.read_all.new.device) c.in-Ok-read_all.log c.in-Ok-read_all.records.items c.in-Ok-read_all.ensures.start
     c.in-Ok-read_all.ensures.opens c.in-Ok-read_all.ensures.records c.in-Ok-read_all.ensures.log_of c.in-Ok-read_all.ensures.at_rest
 
 pub returns-in-Err-read_all-clause-refused : goal.returns-in-Err-read_all-clause-refused

@@ -5,5 +5,6 @@ use Rattle.wal_log.proofs.tests.full.Given as goal
 abbrev pub invariant-loop : goal.invariant-loop
 invariant-loop l = record {
   pages : l.device.pages ≡ 265;
+  start : l.log.start ≡ 36864;
   counted : IsCounted l.log;
 }
