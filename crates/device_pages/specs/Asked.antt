@@ -1,0 +1,44 @@
+-- What asking for pages makes of a device.
+use Rattle.std.specs.Prelude.{◌≡◌, ℕ, ◌+◌, ◌-◌, ◌*◌, ◌^◌, Bool, true, false, nat_lt, if◌then◌else◌, List, [], ◌∷◌, length, map, Option}
+use Rattle.dev_model.specs.Counts.{next_count}
+use Rattle.dev_model.specs.DeviceCalls.{made_at}
+use Rattle.dev_model.specs.declared.calls.DeviceCall.{DeviceCall}
+use Rattle.dev_model.specs.declared.calls.DeviceAct.TheVariants.{ReadAt}
+use Rattle.dev_model.specs.Story.{Call, Read, FailedCall, Calls, Story, all_noted}
+use Rattle.device_pages.specs.declared.lending.TheConstants.{PAGE_BYTES}
+
+-- what a reader sees of a device
+pub record Seen : Type 0 where
+  pub pages : ℕ
+  pub clock : ℕ
+  pub story : Option Story
+
+abbrev pub seen : {D : Type 0} → (pages clock : D → ℕ) → (D → Option Story) → D → Seen
+seen pages clock story device = record { pages = pages device; clock = clock device; story = story device }
+
+-- the call that reads a page
+abbrev pub read_of : ℕ → Call
+read_of page = Read (page * PAGE_BYTES) PAGE_BYTES
+
+-- The calls that asking for these pages, each given or not, leaves in a story from this clock on: a read for each page
+-- that was given, and a failed call for each other one. At the clock's last value a failed call isn't told.
+abbrev pub calls_of : ℕ → List (ℕ × Bool) → Calls
+calls_of clock [] = []
+calls_of clock ((page, true) ∷ asked) = read_of page ∷ calls_of (clock + 1) asked
+calls_of clock ((page, false) ∷ asked) = if nat_lt clock (2 ^ 64 - 1) then FailedCall ∷ calls_of (clock + 1) asked else calls_of clock asked
+
+-- the pages that were asked for, given or not
+abbrev pub pages_of : List (ℕ × Bool) → List ℕ
+pages_of asked = map (λ x. x.0) asked
+
+-- the reads that succeeded, each with the clock right after it
+abbrev pub reads_made : ℕ → List (ℕ × Bool) → List DeviceCall
+reads_made clock [] = []
+reads_made clock ((page, true) ∷ asked) = made_at (clock + 1) (ReadAt (page * PAGE_BYTES) PAGE_BYTES) ∷ reads_made (clock + 1) asked
+reads_made clock ((page, false) ∷ asked) = reads_made (next_count clock) asked
+
+-- these pages, each given or not, were asked for in turn, and nothing else was done
+pub record Asked (asked : List (ℕ × Bool)) (old new : Seen) : Type 0 where
+  pub same_pages : new.pages ≡ old.pages
+  pub clock : new.clock ≡ old.clock + length (calls_of old.clock asked)
+  pub told : new.story ≡ all_noted (calls_of old.clock asked) old.story

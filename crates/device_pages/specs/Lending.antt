@@ -1,0 +1,46 @@
+-- Which pages of a device are lent, and what is on them.
+use Rattle.std.specs.Prelude.{ℕ, zero, suc, ◌+◌, ◌*◌, ◌<◌, ◌≤◌, Bool, IsTrue, true, ◌&&◌, ◌||◌, not, nat_le, nat_lt, if◌then◌else◌, List, [], ◌∷◌, length, Option, Some, None}
+use Rattle.std.specs.List.{list_any, list_all}
+use Rattle.space_map.specs.declared.space.Extent.{Extent}
+use Rattle.space_map.specs.Space.{is_in}
+use Rattle.dev_model.specs.Story.{Read, Write, Sync, FailedWrite, FailedCall, Past, Story, bytes_of, part}
+use Rattle.device_pages.specs.declared.lending.TheConstants.{PAGE_BYTES}
+
+abbrev pub is_lent : List Extent → ℕ → Bool
+is_lent extents page = list_any (is_in page) extents
+
+-- a place of a lent page
+pub record IsLentPlace (extents : List Extent) (i : ℕ) : Type 0 where
+  pub page : ℕ
+  pub lent : IsTrue (is_lent extents page)
+  pub from : page * PAGE_BYTES ≤ i
+  pub to : i < page * PAGE_BYTES + PAGE_BYTES
+
+abbrev pub is_inside : (at count i : ℕ) → Bool
+is_inside at count i = nat_le at i && nat_lt i (at + count)
+
+-- no write has failed at this place since it was last written
+abbrev pub is_readable : Past → ℕ → Bool
+is_readable [] i = true
+is_readable (Write at new ∷ past) i = is_inside at (length new) i || is_readable past i
+is_readable (FailedWrite at new ∷ past) i = not (is_inside at (length new) i) && is_readable past i
+is_readable (Read at count ∷ past) i = is_readable past i
+is_readable (Sync ∷ past) i = is_readable past i
+is_readable (FailedCall ∷ past) i = is_readable past i
+
+-- each place of a range passes a test
+unfoldable pub each_place : (at count : ℕ) → (ℕ → Bool) → Bool
+each_place at zero test = true
+each_place at (suc count) test = test at && each_place (at + 1) count test
+
+-- each place of each page of the extents is readable
+abbrev pub are_readable : Past → List Extent → Bool
+are_readable past extents = list_all (λ e. each_place (e.first * PAGE_BYTES) (e.pages * PAGE_BYTES) (is_readable past)) extents
+
+abbrev pub page_bytes : Story → ℕ → List ℕ
+page_bytes s page = part (page * PAGE_BYTES) PAGE_BYTES (bytes_of s)
+
+-- the bytes of each lent page, where they are told and readable
+abbrev pub contents_of : List Extent → Option Story → Option (ℕ → List ℕ)
+contents_of extents None = None
+contents_of extents (Some s) = if are_readable s.past extents then Some (page_bytes s) else None

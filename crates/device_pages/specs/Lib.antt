@@ -1,0 +1,4 @@
+pub mod Asked
+pub mod Claims
+pub mod Laws
+pub mod Lending
