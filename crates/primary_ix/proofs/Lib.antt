@@ -1,0 +1,6 @@
+pub mod Joined
+pub mod Memory
+pub mod Passed
+pub mod Rebuilt
+pub mod Stored
+pub mod Whole

@@ -1,0 +1,3 @@
+-- Laws of the definitions beside this file, for the crates above. No public contract needs them.
+pub mod Agreeing
+pub mod Fitting
