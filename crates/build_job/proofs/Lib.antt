@@ -1,0 +1,3 @@
+mod Describing
+mod Placing
+mod Showing
