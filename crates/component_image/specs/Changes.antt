@@ -1,0 +1,13 @@
+-- The rows that writes of the log lay in memory.
+use Rattle.std.specs.Prelude.{List, [], ◌∷◌}
+use Rattle.order_merge.specs.Adding.{with_entry}
+use Rattle.wal_log.specs.declared.records.Record.{Record}
+use Rattle.image_model.specs.Recovered.{write_of}
+use Rattle.primary_ix.specs.Rows.{prim_reading}
+use Rattle.primary_ix.specs.Wanted.{written_row}
+use Rattle.primary_ix.specs.declared.rows.PrimRow.{PrimRow}
+
+-- the list after the writes of these records, one after another
+abbrev pub changed : List PrimRow → List Record → List PrimRow
+changed rows [] = rows
+changed rows (r ∷ records) = changed (with_entry prim_reading (written_row (write_of r.op)) rows) records

@@ -1,0 +1,54 @@
+-- When an image opens, what an opening looks at, and the table that the image recovers to.
+use Rattle.std.specs.Prelude.{◌≡◌, ◌⊎◌, ℕ, List, [], ◌∷◌}
+use Rattle.dev_model.specs.Story.{Bytes}
+use Rattle.table_model.specs.Table.{Table}
+use Rattle.wal_log.specs.Later.{later}
+use Rattle.wal_log.specs.Rules.{Opens as LogOpens, records_of}
+use Rattle.wal_log.specs.Segments.{segments_of}
+use Rattle.image_model.specs.declared.places.TheConstants.{LOG_START}
+use Rattle.image_model.specs.Superblock.{IsFormatted}
+use Rattle.image_model.specs.Opening.{IsLookedInSuperblock, IsLookedInLog}
+use Rattle.image_model.specs.Recovered.{replayed}
+use Rattle.comp_dir.specs.Directory.{directory_of, IsLooked}
+use Rattle.comp_dir.specs.Choosing.{Opens as DirectoryOpens}
+use Rattle.comp_dir.specs.declared.places.TheConstants.{PRIMARY}
+use Rattle.comp_dir.specs.declared.slots.Slot.{Slot}
+use Rattle.primary_ix.specs.declared.rows.PrimRow.{PrimRow}
+use Rattle.component_image.specs.Components.{components, end_of, IsInExtents}
+use Rattle.component_image.specs.Content.{ShowAll, Count}
+use Rattle.component_image.specs.Laid.{table_of}
+
+-- the live components of the primary, the newest first
+abbrev pub primary_of : Bytes → List Slot
+primary_of bytes = components PRIMARY (directory_of bytes)
+
+-- The number of the last write that each index has in components. The primary alone has components yet.
+abbrev pub ends_of : List Slot → List ℕ
+ends_of slots = end_of slots ∷ []
+
+-- the image of a device of so many pages opens; no index is declared that has components beside the primary
+pub record Opens (pages : ℕ) (bytes : Bytes) : Type 0 where
+  pub formatted : IsFormatted pages bytes
+  pub directory : DirectoryOpens pages 0 (directory_of bytes)
+  pub log : LogOpens (ends_of (primary_of bytes)) (segments_of LOG_START bytes)
+
+-- the places that an opening looks at
+abbrev pub IsLookedAt : Bytes → ℕ → Type 0
+IsLookedAt bytes i = IsLookedInSuperblock bytes i ⊎ (IsLooked bytes i ⊎ IsLookedInLog bytes i)
+
+-- the places at which the rows of components stand
+abbrev pub IsContent : Bytes → ℕ → Type 0
+IsContent bytes i = IsInExtents (primary_of bytes) i
+
+-- a place that is looked at, or a page of a component, but no place of the log
+abbrev pub IsBeside : Bytes → ℕ → Type 0
+IsBeside bytes i = IsLookedInSuperblock bytes i ⊎ (IsLooked bytes i ⊎ IsContent bytes i)
+
+-- The image of a device of so many pages opens, each live component shows a list, and the table is that of these lists with the
+-- later writes of the log behind them.
+pub record Recovers (pages : ℕ) (table : Table) (bytes : Bytes) : Type 0 where
+  pub opens : Opens pages bytes
+  pub lists : List (List PrimRow)
+  pub shown : ShowAll bytes (primary_of bytes) lists
+  pub counted : Count (primary_of bytes) lists
+  pub table_is : table ≡ replayed (table_of lists) (later (end_of (primary_of bytes)) (records_of (segments_of LOG_START bytes)))

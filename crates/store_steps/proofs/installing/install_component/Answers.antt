@@ -1,0 +1,47 @@
+use Rattle.std.proofs.Common.{[], ◌∷◌, ◌∙◌}
+use Rattle.dev_model.specs.Story.{Sync}
+use Rattle.dev_model.specs.Laws.Frame.{WritesWithin-did}
+use Rattle.dev_model.specs.Laws.Plans.{Did-call}
+use Rattle.store_steps.proofs.Opening.{slot-leaves, unsynced-leaves, opened-leaves, installed-rests, installed-placed}
+use Rattle.store_steps.proofs.installing.install_component.Goals as goal
+
+pub returns-in_err-write_slot-clause-any_moment : goal.returns-in_err-write_slot-clause-any_moment
+returns-in_err-write_slot-clause-any_moment g c log table frozen lists s is rest may closed written =
+    slot-leaves (g.D.Device.pages c.args.device.now) log table s c.args.n c.args.slot.now frozen lists rest may closed (g.D.Device.story c.write_slot.new.device) (c.write_slot.ensures.within s is)
+
+pub returns-in_err-sync-clause-any_moment : goal.returns-in_err-sync-clause-any_moment
+returns-in_err-sync-clause-any_moment g c log table frozen lists s is rest may closed written =
+    unsynced-leaves (g.D.Device.pages c.args.device.now) log table c.args.n c.args.slot.now frozen lists s rest may closed written (g.D.Device.story c.write_slot.new.device) (c.write_slot.ensures.within s is) (g.D.Device.story c.sync.new.self)
+    (λ t told. WritesWithin-did 0 0 t (Sync ∷ []) (g.D.Device.story c.write_slot.new.device) (g.D.Device.story c.sync.new.self) c.sync.result told (Did-call _ _ Sync _ _ c.sync.result c.sync.ensures.told) (λ i out. (tt, tt)))
+
+pub returns-in_err-open_gate-clause-any_moment : goal.returns-in_err-open_gate-clause-any_moment
+returns-in_err-open_gate-clause-any_moment g c log table frozen lists s is rest may closed written =
+    opened-leaves (g.D.Device.pages c.args.device.now) log table c.args.n c.args.slot.now frozen lists s rest may closed written (g.D.Device.story c.write_slot.new.device) (c.write_slot.ensures.within s is)
+    (λ t told. c.in_ok-write_slot.ensures.written s is closed t told) (g.D.Device.story c.open_gate.new.device)
+    (λ u told. c.open_gate.ensures.within u (c.in_ok-sync.ensures.told ∙ told))
+    (λ u told directory ready. c.open_gate.ensures.any_moment c.args.slot.now u (c.in_ok-sync.ensures.told ∙ told) directory ready)
+
+pub returns-clause-any_moment : goal.returns-clause-any_moment
+returns-clause-any_moment g c log table frozen lists s is rest may closed written =
+    opened-leaves (g.D.Device.pages c.args.device.now) log table c.args.n c.args.slot.now frozen lists s rest may closed written (g.D.Device.story c.write_slot.new.device) (c.write_slot.ensures.within s is)
+    (λ t told. c.in_ok-write_slot.ensures.written s is closed t told) (g.D.Device.story c.open_gate.new.device)
+    (λ u told. c.open_gate.ensures.within u (c.in_ok-sync.ensures.told ∙ told))
+    (λ u told directory ready. c.open_gate.ensures.any_moment c.args.slot.now u (c.in_ok-sync.ensures.told ∙ told) directory ready)
+
+pub returns-clause-rests : goal.returns-clause-rests
+returns-clause-rests g c log table frozen lists s is rest may closed written t told =
+    installed-rests (g.D.Device.pages c.args.device.now) log table c.args.n c.args.slot.now frozen lists s rest may closed written (g.D.Device.story c.write_slot.new.device) (c.write_slot.ensures.within s is)
+    (λ t told. c.in_ok-write_slot.ensures.written s is closed t told) (g.D.Device.story c.open_gate.new.device)
+    (λ u told. c.open_gate.ensures.within u (c.in_ok-sync.ensures.told ∙ told))
+    (λ u told directory ready. c.open_gate.ensures.any_moment c.args.slot.now u (c.in_ok-sync.ensures.told ∙ told) directory ready)
+    (λ u told directory ready t now. c.in_ok-open_gate.ensures.at_rest c.args.slot.now u (c.in_ok-sync.ensures.told ∙ told) directory ready t now)
+    (λ u told directory ready t now. c.in_ok-open_gate.ensures.opened c.args.slot.now u (c.in_ok-sync.ensures.told ∙ told) directory ready t now) t told
+
+pub returns-clause-placed : goal.returns-clause-placed
+returns-clause-placed g c log table frozen lists s is rest may closed written t told =
+    installed-placed (g.D.Device.pages c.args.device.now) log table c.args.n c.args.slot.now frozen lists s rest may closed written (g.D.Device.story c.write_slot.new.device) (c.write_slot.ensures.within s is)
+    (λ t told. c.in_ok-write_slot.ensures.written s is closed t told) (g.D.Device.story c.open_gate.new.device)
+    (λ u told. c.open_gate.ensures.within u (c.in_ok-sync.ensures.told ∙ told))
+    (λ u told directory ready. c.open_gate.ensures.any_moment c.args.slot.now u (c.in_ok-sync.ensures.told ∙ told) directory ready)
+    (λ u told directory ready t now. c.in_ok-open_gate.ensures.at_rest c.args.slot.now u (c.in_ok-sync.ensures.told ∙ told) directory ready t now)
+    (λ u told directory ready t now. c.in_ok-open_gate.ensures.opened c.args.slot.now u (c.in_ok-sync.ensures.told ∙ told) directory ready t now) t told

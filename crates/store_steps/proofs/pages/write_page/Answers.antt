@@ -1,0 +1,17 @@
+use Rattle.std.proofs.Common.{arith}
+use Rattle.store_steps.proofs.Free.{page-leaves, page-rests, page-within, page-written}
+use Rattle.store_steps.proofs.pages.write_page.Goals as goal
+
+pub returns-clause-within : goal.returns-clause-within
+returns-clause-within g c s is = page-within c.args.page _ c.args.bytes.now s _ _ c.write.result (omega (arith, c.from.ensures)) (assumption (c.fits-bytes)) is c.write.ensures.told
+
+pub returns-clause-any_moment : goal.returns-clause-any_moment
+returns-clause-any_moment g c log table s is rest free =
+    page-leaves (g.D.Device.pages c.args.device.now) log table s (g.D.Device.story c.write.new.self) c.args.page c.requires.behind rest free (returns-clause-within g c s is)
+
+pub returns-clause-rests : goal.returns-clause-rests
+returns-clause-rests g c log table s is rest free t told =
+    page-rests (g.D.Device.pages c.args.device.now) log table s (g.D.Device.story c.write.new.self) c.args.page c.requires.behind rest free (returns-clause-within g c s is) t told
+
+pub returns-clause-written : goal.returns-clause-written
+returns-clause-written g c = page-written c.args.page _ c.args.bytes.now _ _ c.write.result (omega (arith, c.from.ensures)) (assumption (c.fits-bytes)) c.write.ensures.told

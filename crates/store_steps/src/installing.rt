@@ -1,0 +1,46 @@
+// A component that is written, from its slot to its open gate.
+ghost use Rattle.std.specs.Prelude.{◌≡◌, ◌<◌, ◌≤◌, ◌∷◌, List, OnOk};
+ghost use Rattle.dev_model.specs.Counts.{HasCause};
+ghost use Rattle.dev_model.specs.Story.{WhereTold, Did, Ticks, bytes_of};
+ghost use Rattle.dev_model.specs.Moments.{LeavesOnly};
+ghost use Rattle.table_model.specs.Table.{Table};
+ghost use Rattle.wal_log.specs.declared.log.Log.{Log};
+ghost use Rattle.wal_log.specs.declared.records.Record.{Record};
+ghost use Rattle.comp_dir.specs.State.{IsClosed, install_calls};
+ghost use Rattle.primary_ix.specs.declared.rows.PrimRow.{PrimRow};
+ghost use Rattle.component_image.specs.Recovered.{primary_of, Recovers};
+ghost use Rattle.component_image.specs.Resting.{Rests, MayStand};
+ghost use Rattle.store_steps.specs.Steps.{IsWritten};
+
+use comp_dir::{SLOTS, Slot, open_gate, write_slot};
+use dev_model::{Device, Failed};
+use image_model::LOG_PAGES;
+
+/// Installs a component whose pages are written: writes its slot, syncs, opens the slot's gate and syncs. It stops at the call
+/// that fails. The first sync puts the pages on the disk too, so a component is open only where its pages are.
+pub fn install_component<D: Device>(device: &mut D, n: u16, slot: &Slot) -> Result<(), Failed>
+    requires below { n < SLOTS }
+    requires pages { LOG_PAGES ≤ D.pages device.old }
+
+    ensures did { Did (install_calls n slot.now) (D.story device.old) (D.story device.new) result }
+    ensures ticks { Ticks 4 (D.clock device.old) (D.clock device.new) result }
+
+    // Each crash at each moment leaves the table, with the component or without it; after `Ok` the store is at rest with it.
+    ensures any_moment { (log : Log) (table : Table) (frozen : List Record) (lists : List (List PrimRow)) → WhereTold (D.story device.old) (λ s.
+        Rests (D.pages device.old) log table s → MayStand (D.pages device.old) s n slot.now frozen lists → IsClosed n s → IsWritten slot.now s →
+        LeavesOnly s (D.story device.new) (Recovers (D.pages device.old) table)) }
+    ensures rests { (log : Log) (table : Table) (frozen : List Record) (lists : List (List PrimRow)) → OnOk result (WhereTold (D.story device.old) (λ s.
+        Rests (D.pages device.old) log table s → MayStand (D.pages device.old) s n slot.now frozen lists → IsClosed n s → IsWritten slot.now s →
+        WhereTold (D.story device.new) (Rests (D.pages device.old) log table))) }
+    ensures placed { (log : Log) (table : Table) (frozen : List Record) (lists : List (List PrimRow)) → OnOk result (WhereTold (D.story device.old) (λ s.
+        Rests (D.pages device.old) log table s → MayStand (D.pages device.old) s n slot.now frozen lists → IsClosed n s → IsWritten slot.now s →
+        WhereTold (D.story device.new) (λ t. primary_of (bytes_of t) ≡ slot.now ∷ primary_of (bytes_of s)))) }
+
+    ensures same_pages { D.pages device.new ≡ D.pages device.old }
+    ensures cause { HasCause (D.fault_count device.old) (D.fault_count device.new) result }
+{
+    write_slot(device, n, slot)?;
+    device.sync()?;
+    open_gate(device, n)?;
+    Ok(())
+}

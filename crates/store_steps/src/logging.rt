@@ -1,0 +1,82 @@
+// Records that are appended, and changes of the log's segments.
+ghost use Rattle.std.specs.Prelude.{◌≡◌, ◌+◌, ◌<◌, ◌≤◌, IfOk, OnOk, ℕ, get_or, false};
+ghost use Rattle.dev_model.specs.Counts.{HasCause};
+ghost use Rattle.dev_model.specs.Story.{WhereTold, Did, Ticks, bytes_of};
+ghost use Rattle.dev_model.specs.Moments.{LeavesOnly};
+ghost use Rattle.table_model.specs.Table.{Table};
+ghost use Rattle.table_model.specs.Answers.{after_write};
+ghost use Rattle.wal_log.specs.Records.{HasOld};
+ghost use Rattle.wal_log.specs.State.{IsCounted, append_calls, turn_calls, following, close_count};
+ghost use Rattle.image_model.specs.Recovered.{write_of};
+ghost use Rattle.component_image.specs.Components.{end_of};
+ghost use Rattle.component_image.specs.Recovered.{primary_of, Recovers};
+ghost use Rattle.component_image.specs.Resting.{Rests, RecoversEither};
+
+use dev_model::{Device, Failed};
+use image_model::{LOG_PAGES, LOG_START};
+use wal_log::{LSN_LIMIT, Log, MOST_RECORDS, Record};
+
+/// Logs a write of the store. It answers the device's clock from which on each crash leaves it.
+pub fn append_record<D: Device>(
+    device: &mut D,
+    log: &mut Log,
+    logged: &Record,
+) -> Result<u64, Failed>
+    requires start { log.old.start ≡ LOG_START }
+    requires room { log.old.records < MOST_RECORDS }
+    requires next { logged.now.lsn ≡ log.old.next_lsn }
+    requires below { logged.now.lsn < LSN_LIMIT }
+    requires has_old { HasOld logged.now.op logged.now.old_point }
+    requires pages { LOG_PAGES ≤ D.pages device.old }
+    requires counted { IsCounted log.old }
+
+    ensures did { Did (append_calls log.old logged.now) (D.story device.old) (D.story device.new) result }
+    ensures ticks { Ticks 4 (D.clock device.old) (D.clock device.new) result }
+    ensures ack { IfOk result (λ ack. ack ≡ D.clock device.new) }
+
+    // Each crash at each moment leaves the table before the write, or the one behind it; after `Ok` the store is at rest with it.
+    ensures any_moment { (table : Table) → WhereTold (D.story device.old) (λ s. Rests (D.pages device.old) log.old table s → end_of (primary_of (bytes_of s)) < logged.now.lsn →
+        LeavesOnly s (D.story device.new) (RecoversEither (D.pages device.old) table (after_write table (write_of logged.now.op)))) }
+    ensures rests { (table : Table) → OnOk result (WhereTold (D.story device.old) (λ s. Rests (D.pages device.old) log.old table s → end_of (primary_of (bytes_of s)) < logged.now.lsn →
+        WhereTold (D.story device.new) (Rests (D.pages device.old) log.new (after_write table (write_of logged.now.op))))) }
+
+    ensures counted { OnOk result (IsCounted log.new) }
+    ensures start { log.new.start ≡ log.old.start }
+    ensures generation { log.new.generation ≡ log.old.generation }
+    ensures records { OnOk result (log.new.records ≡ log.old.records + 1) }
+    ensures next_lsn { OnOk result (log.new.next_lsn ≡ log.old.next_lsn + 1) }
+    ensures same_pages { D.pages device.new ≡ D.pages device.old }
+    ensures cause { HasCause (D.fault_count device.old) (D.fault_count device.new) result }
+{
+    let ack = log.append(device, logged)?;
+    Ok(ack)
+}
+
+/// Goes on in the next segment of the log, so that the records of the one before can be frozen. The components of the primary
+/// have to end where that one begins.
+pub fn change_segments<D: Device>(device: &mut D, log: &mut Log) -> Result<(), Failed>
+    requires start { log.old.start ≡ LOG_START }
+    requires some { 1 ≤ log.old.records }
+    requires pages { LOG_PAGES ≤ D.pages device.old }
+    requires counted { IsCounted log.old }
+
+    ensures did { Did (turn_calls log.old) (D.story device.old) (D.story device.new) result }
+    ensures ticks { Ticks (close_count (get_or log.old.open_headers (following log.old) false) + 4) (D.clock device.old) (D.clock device.new) result }
+
+    // Each crash at each moment leaves the table; after `Ok` the store is at rest with the new segment.
+    ensures any_moment { (table : Table) → WhereTold (D.story device.old) (λ s. Rests (D.pages device.old) log.old table s → end_of (primary_of (bytes_of s)) + 1 + log.old.records ≡ log.old.next_lsn →
+        LeavesOnly s (D.story device.new) (Recovers (D.pages device.old) table)) }
+    ensures rests { (table : Table) → OnOk result (WhereTold (D.story device.old) (λ s. Rests (D.pages device.old) log.old table s → end_of (primary_of (bytes_of s)) + 1 + log.old.records ≡ log.old.next_lsn →
+        WhereTold (D.story device.new) (Rests (D.pages device.old) log.new table))) }
+
+    ensures counted { OnOk result (IsCounted log.new) }
+    ensures start { log.new.start ≡ log.old.start }
+    ensures generation { OnOk result (log.new.generation ≡ log.old.generation + 1) }
+    ensures records { OnOk result (log.new.records ≡ 0) }
+    ensures next_lsn { log.new.next_lsn ≡ log.old.next_lsn }
+    ensures same_pages { D.pages device.new ≡ D.pages device.old }
+    ensures cause { HasCause (D.fault_count device.old) (D.fault_count device.new) result }
+{
+    log.next_segment(device)?;
+    Ok(())
+}

@@ -1,0 +1,40 @@
+// A page that no component has.
+ghost use Rattle.std.specs.Prelude.{◌≡◌, ◌+◌, ◌*◌, ◌<◌, ◌≤◌, [], ◌∷◌, OnOk};
+ghost use Rattle.dev_model.specs.Counts.{HasCause};
+ghost use Rattle.dev_model.specs.Story.{WhereTold, Did, Ticks, Write, bytes_of};
+ghost use Rattle.dev_model.specs.Moments.{LeavesOnly, WritesWithin};
+ghost use Rattle.table_model.specs.Table.{Table};
+ghost use Rattle.wal_log.specs.declared.log.Log.{Log};
+ghost use Rattle.component_image.specs.Recovered.{Recovers};
+ghost use Rattle.component_image.specs.Resting.{Rests};
+ghost use Rattle.store_steps.specs.Steps.{IsFree, HasPage};
+
+use comp_dir::FIRST_DATA_PAGE;
+use dev_model::{Device, Failed};
+use page_codec::PAGE_BYTES;
+
+/// Writes a page behind the log, in one write, and doesn't sync. Where no component has the page, each crash at each moment
+/// leaves the table, and the store stays at rest, also where the write fails.
+pub fn write_page<D: Device>(
+    device: &mut D,
+    page: u32,
+    bytes: &[u8; PAGE_BYTES],
+) -> Result<(), Failed>
+    requires behind { FIRST_DATA_PAGE ≤ page }
+    requires on_device { page < D.pages device.old }
+
+    ensures did { Did (Write (page * PAGE_BYTES) bytes.now ∷ []) (D.story device.old) (D.story device.new) result }
+    ensures ticks { Ticks 1 (D.clock device.old) (D.clock device.new) result }
+    ensures within { WhereTold (D.story device.old) (λ s. WritesWithin (page * PAGE_BYTES) PAGE_BYTES s (D.story device.new)) }
+
+    ensures any_moment { (log : Log) (table : Table) → WhereTold (D.story device.old) (λ s. Rests (D.pages device.old) log table s → IsFree page (bytes_of s) →
+        LeavesOnly s (D.story device.new) (Recovers (D.pages device.old) table)) }
+    ensures rests { (log : Log) (table : Table) → WhereTold (D.story device.old) (λ s. Rests (D.pages device.old) log table s → IsFree page (bytes_of s) →
+        WhereTold (D.story device.new) (Rests (D.pages device.old) log table)) }
+    ensures written { OnOk result (WhereTold (D.story device.old) (λ _. WhereTold (D.story device.new) (λ t. HasPage page bytes.now t))) }
+
+    ensures same_pages { D.pages device.new ≡ D.pages device.old }
+    ensures cause { HasCause (D.fault_count device.old) (D.fault_count device.new) result }
+{
+    device.write(u64::from(page) * PAGE_BYTES as u64, bytes)
+}
