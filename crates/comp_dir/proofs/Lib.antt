@@ -1,5 +1,4 @@
 mod Finding
 mod Meaning
-mod Spelled
 mod Turning
 mod Walking

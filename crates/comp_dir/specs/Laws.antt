@@ -3,4 +3,5 @@ pub mod Adding
 pub mod Agreeing
 pub mod Closing
 pub mod OneMore
+pub mod Spelled
 pub mod Staying

@@ -2,7 +2,7 @@
 ghost use Rattle.std.specs.Prelude.{◌≡◌, ◌+◌, ◌<◌, ◌≤◌, ◌&&◌, ◌||◌, not, ℕ, length, IfOk, IfErr, OnOk, Some, None};
 ghost use Rattle.std.specs.List.{list_any};
 ghost use Rattle.comp_dir.specs.Faults.{WhereBad, IsNotFailed};
-ghost use Rattle.comp_dir.specs.Choosing.{shares_page, shares_lsn, is_inside, is_equal, same_index, is_hidden_by, is_ignored, is_live, live_slots, ignored_slots, clashes, is_lower, overlaps_lower, clashes_with_lower, is_followed_by, continues, lower_of_index, fits_live, is_bad, bad_slot, numbers};
+ghost use Rattle.comp_dir.specs.Choosing.{shares_page, shares_lsn, is_inside, is_equal, same_index, is_hidden_by, is_ignored, is_live, live_slots, ignored_slots, clashes, is_lower, overlaps_lower, clashes_with_lower, is_followed_by, continues, lower_of_index, fits_live, is_bad, bad_slot};
 ghost use Rattle.comp_dir.specs.Words.{Chooses};
 
 use crate::faults::DirFault;
@@ -10,13 +10,13 @@ use crate::places::MOST_LIVE;
 use crate::slots::Slot;
 use std::alloc::{AllocError, Global};
 
-/// The numbers of the live and of the ignored slots, each in the order of the list.
+/// The live and the ignored slots, each with its number and in the order of the list.
 #[derive(Drop)]
 pub struct ChosenSlots {
     /// Those that have a component.
-    pub live: Vec<u16>,
+    pub live: Vec<(u16, Slot)>,
     /// Those whose writes another slot of the index has too.
-    pub ignored: Vec<u16>,
+    pub ignored: Vec<(u16, Slot)>,
 }
 
 fn shares_page(slot: &Slot, other: &Slot) -> bool
@@ -124,30 +124,23 @@ fn is_bad(all: &[(u16, Slot)], live: &[(u16, Slot)], numbered: &(u16, Slot)) -> 
         && !(continues(live, numbered) && lower_of_index(live, numbered) < MOST_LIVE)
 }
 
-/// The live slots and the numbers of the ignored ones.
-#[derive(Drop)]
-struct Parted {
-    live: Vec<(u16, Slot)>,
-    ignored: Vec<u16>,
-}
-
 #[tactic(auto, using(crate::proofs::Walking::one_more_part))]
-fn part(slots: &[(u16, Slot)], alloc: Global) -> Result<Parted, AllocError>
+fn part(slots: &[(u16, Slot)], alloc: Global) -> Result<ChosenSlots, AllocError>
     ensures live { IfOk result (λ parted. parted.live.items ≡ live_slots slots.now) }
-    ensures ignored { IfOk result (λ parted. parted.ignored.items ≡ numbers (ignored_slots slots.now)) }
+    ensures ignored { IfOk result (λ parted. parted.ignored.items ≡ ignored_slots slots.now) }
 {
     let mut live = Vec::new(alloc);
     let mut ignored = Vec::new(alloc);
     for numbered in slots {
         if is_ignored(slots, numbered) {
-            if ignored.push(numbered.0).is_err() {
+            if ignored.push(*numbered).is_err() {
                 return Err(AllocError);
             }
         } else if live.push(*numbered).is_err() {
             return Err(AllocError);
         }
     }
-    Ok(Parted { live, ignored })
+    Ok(ChosenSlots { live, ignored })
 }
 
 fn first_bad(slots: &[(u16, Slot)], live: &[(u16, Slot)]) -> Option<u16>
@@ -160,12 +153,6 @@ fn first_bad(slots: &[(u16, Slot)], live: &[(u16, Slot)]) -> Option<u16>
         }
     }
     None
-}
-
-fn numbers(slots: &[(u16, Slot)], alloc: Global) -> Result<Vec<u16>, AllocError>
-    ensures { IfOk result (λ found. found.items ≡ numbers slots.now) }
-{
-    slots.iter().map(|numbered| numbered.0).collect(alloc)
 }
 
 /// The live and the ignored ones of the open slots of a directory, which come by number. `BadSlot` names the first of them that
@@ -183,10 +170,5 @@ pub fn chosen(slots: &[(u16, Slot)], alloc: Global) -> Result<ChosenSlots, DirFa
     if let Some(n) = first_bad(slots, parted.live.as_slice()) {
         return Err(DirFault::BadSlot(n));
     }
-    let live = match numbers(parted.live.as_slice(), alloc) {
-        Ok(live) => live,
-        Err(_) => return Err(DirFault::OutOfMemory),
-    };
-    let Parted { live: _, ignored } = parted;
-    Ok(ChosenSlots { live, ignored })
+    Ok(parted)
 }

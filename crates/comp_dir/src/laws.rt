@@ -7,9 +7,9 @@ ghost use Rattle.comp_dir.specs.Places.{slot_start};
 ghost use Rattle.comp_dir.specs.Slots.{slot_bytes, slot_of, HasRanges};
 ghost use Rattle.comp_dir.specs.Directory.{Directory, IsLooked, open_slots};
 ghost use Rattle.comp_dir.specs.State.{IsAtRest, IsWritten, IsReady, HasStayed, with_slot, without_slot};
-ghost use Rattle.comp_dir.specs.Choosing.{shares_page, shares_lsn, bad_slot, live_slots, ignored_slots, Opens};
+ghost use Rattle.comp_dir.specs.Choosing.{shares_page, shares_lsn, bad_slot, live_slots, ignored_slots, numbers, Opens};
 ghost use Rattle.comp_dir.specs.Adding.{IsAddable, MayBeAdded, MayBeClosed, HasOneMore};
-ghost use Rattle.comp_dir.specs.Words.{IsPageOf, IsLsnOf, Chooses};
+ghost use Rattle.comp_dir.specs.Words.{IsPageOf, IsLsnOf};
 ghost use Rattle.comp_dir.specs.Examples.{component, merged, with_gap};
 ghost use Rattle.comp_dir.specs.declared.slots.Slot.{Slot};
 
@@ -43,7 +43,7 @@ pub fn tests_mean()
 /// A law: of slots 0 and 1 of dhb with the writes 1 to 5 and 6 to 9, and slot 2 with 1 to 9, slot 2 is live and the others
 /// are ignored. Of slots 0 and 1 with the writes 1 to 5 and 7 to 9, slot 1 is bad.
 pub fn worked_directories()
-    ensures merged { Chooses merged (2 ∷ []) (0 ∷ 1 ∷ []) }
+    ensures merged { (bad_slot merged ≡ None) × (numbers (live_slots merged) ≡ 2 ∷ []) × (numbers (ignored_slots merged) ≡ 0 ∷ 1 ∷ []) }
     ensures with_gap { bad_slot with_gap ≡ Some 1 }
 {}
 

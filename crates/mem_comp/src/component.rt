@@ -9,6 +9,7 @@ use crate::view::MemView;
 use order_merge::Entry;
 use std::alloc::{AllocError, Global};
 use std::marker::Model;
+use std::mem::replace;
 
 /// The entries of an index that are only in memory: at most one of each key, in ascending order of the keys. It is seen
 /// as their list, and the number of entries that may be added before it has to grow.
@@ -70,6 +71,17 @@ impl<E: Entry> MemComp<E> {
     {
         if let Ok(at) = search(&self.entries, key) {
             self.entries.remove(at);
+        }
+    }
+
+    /// Gives the list away, and is empty then. It takes no memory.
+    pub fn set_aside(&mut self) -> MemView<E>
+        ensures view { result ≡ self.old.0 }
+        ensures entries { self.new.0 ≡ [] }
+    {
+        let alloc = *self.entries.allocator();
+        MemView {
+            entries: replace(&mut self.entries, Vec::new(alloc)),
         }
     }
 

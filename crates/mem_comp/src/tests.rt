@@ -131,3 +131,21 @@ fn a_view_stays_as_it_was(rt: HostRuntime) -> Result<(), AllocError> {
     assert_eq!(rt; marks.as_slice(), [first, first].as_slice());
     Ok(())
 }
+
+#[test]
+fn a_list_that_is_set_aside_leaves_none(rt: HostRuntime) -> Result<(), AllocError> {
+    let first = Mark {
+        key: 7,
+        anti: false,
+        tag: 1,
+    };
+    let mut component = MemComp::new(rt.alloc());
+    component.reserve(1)?;
+    component.add(first);
+    let view = component.set_aside();
+    assert_eq!(rt; view.len(), 1);
+    assert_eq!(rt; view.get(&7), Some(first));
+    assert_eq!(rt; component.get(&7), None);
+    assert_eq!(rt; component.set_aside().len(), 0);
+    Ok(())
+}

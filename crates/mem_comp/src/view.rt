@@ -1,6 +1,6 @@
 //! A view of a component, which stays as it is.
 
-ghost use Rattle.std.specs.Prelude.{◌≡◌, ◌++◌, OnOk, OnErr};
+ghost use Rattle.std.specs.Prelude.{◌≡◌, ◌++◌, length, OnOk, OnErr};
 ghost use Rattle.order_merge.specs.Entries.{Reading, Ascends, entry_at};
 
 use crate::search::entry_in;
@@ -31,6 +31,13 @@ impl<E: Entry> MemView<E> {
         ensures { result ≡ entry_at E.reading self.now key.now }
     {
         entry_in(&self.entries, key)
+    }
+
+    /// How many entries it has.
+    pub fn len(&self) -> usize
+        ensures { result ≡ length self.now }
+    {
+        self.entries.len()
     }
 
     /// Appends all entries, in order. Where memory is refused, `out` is as before.

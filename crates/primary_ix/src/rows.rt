@@ -1,6 +1,8 @@
 //! The rows of the primary index.
 
-ghost use Rattle.std.specs.Prelude.{◌≡◌};
+ghost use Rattle.std.specs.Prelude.{◌≡◌, Some};
+ghost use Rattle.btree_image.specs.Rows.{IsStored};
+ghost use Rattle.primary_ix.specs.Rows.{prim_layout};
 ghost use Rattle.primary_ix.specs.Wanted.{record_in};
 
 use crate::bytes::{KEY_BYTES, key_in, read_row, write_row};
@@ -96,9 +98,26 @@ impl TreeRow for PrimRow {
 /// The row that a write adds to the list in memory, in the place of the one with its key: what a put puts there, and an
 /// anti row for a del.
 pub fn change(key: u64, matter: Option<(Point, Note)>) -> PrimRow
-    ensures { result ≡ record { key = key; matter = matter } }
+    ensures row { result ≡ record { key = key; matter = matter } }
+    ensures stored { IsStored prim_layout result }
 {
-    PrimRow { key, matter }
+    match matter {
+        None => PrimRow { key, matter: None },
+        Some((point, note)) => laid(key, point, note),
+    }
+}
+
+// The row of a record.
+fn laid(key: u64, point: Point, note: Note) -> PrimRow
+    ensures row { result ≡ record { key = key; matter = Some (point, note) } }
+    ensures stored { IsStored prim_layout result }
+{
+    // A note keeps its rule, and so fits the room of a row.
+    let _ = note.bytes();
+    PrimRow {
+        key,
+        matter: Some((point, note)),
+    }
 }
 
 impl PrimRow {

@@ -157,6 +157,13 @@ impl SpaceMap {
         longest_gap(&self.reserved, self.pages)
     }
 
+    /// The pages of the device.
+    pub fn pages(&self) -> u32
+        ensures { result ≡ self.now.pages }
+    {
+        self.pages
+    }
+
     // Where the first free run of so many pages begins.
     fn first_fit(&self, count: u32) -> Option<u32>
         requires { 1 ≤ count }

@@ -251,3 +251,12 @@ counted-end before h at_end ends behind is there some below =
     starts_below None last behind goes there lt = omega (arith, there, lt)
     starts_below (Some b) last behind goes (inl here) lt = omega (arith, here, lt)
     starts_below (Some b) last behind goes (inr before_it) lt = ⊎_elim (λ none. omega (arith, none, before_it, lt, goes.1)) (λ all. omega (arith, all, goes.1)) behind.below
+
+-- no index ends behind the first number of the newest segment
+pub ends-behind : (before : Option Ended) (h : Head) (at_end : Ended) (ends : List ℕ) → IsEndOf before h at_end → All (EndsThere before h) ends → All (λ last. last + 1 ≤ at_end.first_lsn) ends
+ends-behind before h at_end ends is there k d lt = by_before before is.follows (there k d lt)
+  where
+    by_before : (before : Option Ended) → GoesOn before h → EndsThere before h (get_or ends k d) → get_or ends k d + 1 ≤ at_end.first_lsn
+    by_before None goes here = omega (arith, here, is.first_lsn)
+    by_before (Some b) goes (inl here) = omega (arith, here, is.first_lsn)
+    by_before (Some b) goes (inr earlier) = omega (arith, earlier, is.first_lsn, goes.1)

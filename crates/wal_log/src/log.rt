@@ -1,5 +1,5 @@
 // The log: its end, where it grows, and the turn to the next segment.
-ghost use Rattle.std.specs.Prelude.{◌≡◌, ◌+◌, ◌-◌, ◌++◌, ◌∷◌, [], ◌^◌, ◌<◌, ◌≤◌, None, Some, false, true, IfOk, OnOk, set, get_or, length, ℕ, List, All};
+ghost use Rattle.std.specs.Prelude.{◌≡◌, ◌+◌, ◌-◌, ◌++◌, ◌∷◌, [], ◌^◌, ◌<◌, ◌≤◌, None, Some, false, true, IfOk, OnErr, OnOk, set, get_or, length, ℕ, List, All};
 ghost use Rattle.dev_model.specs.Counts.{HasCause};
 ghost use Rattle.dev_model.specs.Story.{WhereTold, Did, Ticks, bytes_of};
 ghost use Rattle.dev_model.specs.Moments.{LeavesOnly, WritesWithin};
@@ -82,6 +82,7 @@ impl Log {
         ensures open_headers { self.new.open_headers ≡ self.old.open_headers }
         ensures records { OnOk result (self.new.records ≡ self.old.records + 1) }
         ensures next_lsn { OnOk result (self.new.next_lsn ≡ self.old.next_lsn + 1) }
+        ensures unchanged { OnErr result (self.new ≡ self.old) }
         ensures same_pages { D.pages device.new ≡ D.pages device.old }
         ensures cause { HasCause (D.fault_count device.old) (D.fault_count device.new) result }
     {
@@ -130,6 +131,7 @@ impl Log {
         ensures open_headers { OnOk result (self.new.open_headers ≡ set self.old.open_headers (following self.old) true) }
         ensures records { OnOk result (self.new.records ≡ 0) }
         ensures next_lsn { self.new.next_lsn ≡ self.old.next_lsn }
+        ensures unchanged { OnErr result (self.new ≡ self.old) }
         ensures same_pages { D.pages device.new ≡ D.pages device.old }
         ensures cause { HasCause (D.fault_count device.old) (D.fault_count device.new) result }
     {

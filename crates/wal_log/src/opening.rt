@@ -1,5 +1,5 @@
 // The log as a value, from the device.
-ghost use Rattle.std.specs.Prelude.{◌≡◌, ◌==◌, ◌<◌, ◌≤◌, ◌^◌, length, All, IfOk, IfErr, ℕ, false, get_or};
+ghost use Rattle.std.specs.Prelude.{◌≡◌, ◌==◌, ◌+◌, ◌<◌, ◌≤◌, ◌^◌, length, All, IfOk, IfErr, ℕ, false, get_or};
 ghost use Rattle.dev_model.specs.Counts.{HasCause};
 ghost use Rattle.dev_model.specs.Story.{WhereTold, bytes_of};
 ghost use Rattle.wal_log.specs.Places.{EndsOnDevice, ReadsLog};
@@ -30,6 +30,9 @@ impl Log {
         ensures records { IfOk result (λ read. WhereTold (D.story device.old) (λ s. IsStill log_start s → read.1.items ≡ records_of (segments_of log_start (bytes_of s)))) }
         ensures start { IfOk result (λ read. read.0.start ≡ log_start) }
         ensures counted { IfOk result (λ read. IsCounted read.0) }
+
+        // No index ends behind the first record of the newest segment.
+        ensures behind { IfOk result (λ read. All (λ last. last + 1 + read.0.records ≤ read.0.next_lsn) ends.now) }
         ensures log_of { IfOk result (λ read. WhereTold (D.story device.old) (λ s. IsStill log_start s → IsLogOf read.0 (segments_of log_start (bytes_of s)))) }
         ensures at_rest { IfOk result (λ read. WhereTold (D.story device.old) (λ s. IsStill log_start s → WhereTold (D.story device.new) (IsAtRest read.0))) }
         ensures bad { IfErr result (λ fault. WhereBad fault (λ number.

@@ -145,6 +145,7 @@ pub fn read_segments<D: Device>(
     ensures opens { IfOk result (λ read. WhereTold (D.story device.old) (λ s. IsStill log_start s → Opens ends.now (segments_of log_start (bytes_of s)))) }
     ensures records { IfOk result (λ read. WhereTold (D.story device.old) (λ s. IsStill log_start s → read.records.items ≡ records_of (segments_of log_start (bytes_of s)))) }
     ensures counted { IfOk result (λ read. IsCountedEnd read.ended) }
+    ensures behind { IfOk result (λ read. All (λ last. last + 1 ≤ read.ended.first_lsn) ends.now) }
     ensures newest { IfOk result (λ read. WhereTold (D.story device.old) (λ s. IsStill log_start s → IsNewest log_start (bytes_of s) read.ended)) }
     ensures told { IfOk result (λ read. WhereTold (D.story device.old) (λ s. IsStill log_start s →
         (k : ℕ) → k < 4 → get_or read.open_headers k false ≡ (bytes_of s (segment_start log_start k) == OPEN))) }

@@ -22,7 +22,7 @@ module _ {E K : Type 0} (r : Reading E K) (o : IsKeyOrder r.order) where
   Below-all : (e d : E) (es : List E) → Below e d → All (Below d) es → All (Below e) es
   Below-all e d es p q k x h = o.total.trans _ _ _ p (q k x h)
 
-  All-with_entry : (P : E → Type 0) (e : E) (es : List E) → P e → All P es → All P (with_entry r e es)
+  pub All-with_entry : (P : E → Type 0) (e : E) (es : List E) → P e → All P es → All P (with_entry r e es)
   unfolding with_entry
   All-with_entry P e [] p q = All-cons P e [] p q
   All-with_entry P e (d ∷ es) p q = go (r.order (r.key_of e) (r.key_of d)) (All-with_entry P e es p (All-tail P d es q))

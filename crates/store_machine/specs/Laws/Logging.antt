@@ -38,7 +38,7 @@ use Rattle.store_machine.specs.declared.events.Action.TheVariants.{Write}
 use Rattle.store_machine.specs.declared.events.Event.{Event}
 
 -- the device calls of an append, from a clock on
-log_write : (clock : ℕ) (log : Log) (r : Record) → log.start ≡ LOG_START → log.records < MOST_RECORDS → length (record_bytes r) ≡ 95 → IsLogWrite clock (ok_calls clock (append_calls log r))
+pub log_write : (clock : ℕ) (log : Log) (r : Record) → log.start ≡ LOG_START → log.records < MOST_RECORDS → length (record_bytes r) ≡ 95 → IsLogWrite clock (ok_calls clock (append_calls log r))
 log_write clock log r place room width =
     let two : clock + 1 + 1 ≡ clock + 2 = omega arith in
     let three : clock + 1 + 1 + 1 ≡ clock + 3 = omega arith in

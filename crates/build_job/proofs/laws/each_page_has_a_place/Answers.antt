@@ -1,7 +1,7 @@
 use Rattle.std.proofs.Common.{length}
 use Rattle.btree_image.specs.Image.{shape_of}
 use Rattle.primary_ix.specs.Rows.{prim_layout}
-use Rattle.build_job.proofs.Placing.{page_below, place_of_page}
+use Rattle.build_job.specs.Laws.Placing.{page_below, place_of_page}
 use Rattle.build_job.proofs.laws.each_page_has_a_place.Goals as goal
 
 pub returns-clause-places : goal.returns-clause-places

@@ -1,5 +1,5 @@
 use Rattle.std.proofs.Common.{refl}
-use Rattle.build_job.proofs.Showing.{AreWritten-next, AreWritten-shows}
+use Rattle.build_job.specs.Laws.Showing.{AreWritten-next, AreWritten-shows}
 use Rattle.build_job.proofs.laws.written_pages_show_the_list.Goals as goal
 
 pub returns-clause-next : goal.returns-clause-next

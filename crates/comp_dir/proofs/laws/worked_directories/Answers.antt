@@ -2,7 +2,7 @@ use Rattle.std.proofs.Common.{refl}
 use Rattle.comp_dir.proofs.laws.worked_directories.Goals as goal
 
 pub returns-clause-merged : goal.returns-clause-merged
-returns-clause-merged c = record { sound = refl; live_are = refl; ignored_are = refl }
+returns-clause-merged c = (refl, refl, refl)
 
 pub returns-clause-with_gap : goal.returns-clause-with_gap
 returns-clause-with_gap c = refl

@@ -5,7 +5,7 @@ use Rattle.wal_log.specs.Places.{IsInLog}
 use Rattle.wal_log.specs.Segments.{segments_of}
 use Rattle.wal_log.specs.Rules.{IsBad}
 use Rattle.wal_log.specs.Walk.{HasReadSegment, IsUnsound}
-use Rattle.wal_log.proofs.Walking.{counted-end, told-back-open, head-still, walked-unsound, walked-more, walked-all, walked-elsewhere, walked-records, opens, is_bad, is_bad-empty, all_records, WhereBad-map, newest-there}
+use Rattle.wal_log.proofs.Walking.{counted-end, ends-behind, told-back-open, head-still, walked-unsound, walked-more, walked-all, walked-elsewhere, walked-records, opens, is_bad, is_bad-empty, all_records, WhereBad-map, newest-there}
 use Rattle.wal_log.proofs.walk.read_segments.Goals as goal
 
 pub returns-in-Err-read_segment-clause-reads : goal.returns-in-Err-read_segment-clause-reads
@@ -61,3 +61,6 @@ returns-then-i-len-clause-newest g c s is still =
 pub returns-then-i-len-clause-counted : goal.returns-then-i-len-clause-counted
 returns-then-i-len-clause-counted g c =
     counted-end c.loop-i.before c.index.result.now c.in-Ok-read_segment.ended c.args.ends.now c.loop-i.invariant.ended c.in-Ok-read_segment.ensures.ended c.if-not-all_end_there.ensures.yes c.requires.some c.requires.below
+
+pub returns-then-i-len-clause-behind : goal.returns-then-i-len-clause-behind
+returns-then-i-len-clause-behind g c = ends-behind c.loop-i.before c.index.result.now c.in-Ok-read_segment.ended c.args.ends.now c.in-Ok-read_segment.ensures.ended c.if-not-all_end_there.ensures.yes

@@ -1,6 +1,6 @@
 use Rattle.std.proofs.Common.{rules, subst}
 use Rattle.build_job.specs.Jobs.{IsJob}
-use Rattle.build_job.proofs.Describing.{described-IsSound, same_slot}
+use Rattle.build_job.specs.Laws.Describing.{described-IsSound, same_slot}
 use Rattle.build_job.proofs.job.BuildJob.slot.Goals as goal
 
 pub returns-clause-sound : goal.returns-clause-sound

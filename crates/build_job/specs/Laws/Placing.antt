@@ -1,4 +1,4 @@
--- The pages of a tree and its places.
+-- The pages of a tree and its places. No public contract needs these laws.
 use Rattle.std.proofs.Common.{◌≡◌, ℕ, zero, suc, ◌+◌, ◌-◌, ◌<◌, arith, refl, inl, inr}
 use Rattle.std.proofs.lemmas.Bool.{cases_lt}
 use Rattle.tree_shape.specs.declared.levels.Shape.{Shape}

@@ -1,4 +1,4 @@
--- The slot of a job keeps the rule of a slot.
+-- The slot of a job keeps the rule of a slot. No public contract needs these laws.
 use Rattle.std.proofs.Common.{◌≡◌, ℕ, arith, refl, subst, sym, inl}
 use Rattle.comp_dir.specs.declared.slots.Slot.{Slot}
 use Rattle.comp_dir.specs.Rules.{IsSound}

@@ -1,10 +1,10 @@
--- Pages that are written show the tree of their list.
+-- Pages that are written show the tree of their list. No public contract needs these laws.
 use Rattle.std.proofs.Common.{◌≡◌, ◌≢◌, ℕ, ◌+◌, List, length, arith, refl, sym, subst, below_more}
 use Rattle.btree_image.specs.Image.{shape_of, ShowsTree}
 use Rattle.primary_ix.specs.Rows.{prim_layout}
 use Rattle.build_job.specs.Jobs.{Job, IsJob, steps_left}
 use Rattle.build_job.specs.Written.{IsPageOf, AreWritten}
-use Rattle.build_job.proofs.Placing.{page_below}
+use Rattle.build_job.specs.Laws.Placing.{page_below}
 
 -- one page more
 pub AreWritten-next : (job : Job) (old new : ℕ → List ℕ) → AreWritten job old

@@ -1,3 +1,0 @@
-mod Describing
-mod Placing
-mod Showing

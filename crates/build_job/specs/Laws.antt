@@ -1,0 +1,4 @@
+-- Laws of the definitions beside this file, for proofs of callers. No public contract needs them.
+pub mod Describing
+pub mod Placing
+pub mod Showing
