@@ -1,13 +1,19 @@
 -- Laws of the definitions beside this file, for proofs of callers. No public contract needs them.
 pub mod Added
 pub mod Agreeing
+pub mod Apart
 pub mod Components
+pub mod Counting
+pub mod Fitting
 pub mod Installing
 pub mod Keeping
 pub mod Laid
+pub mod Lists
 pub mod Logging
+pub mod Newest
 pub mod Opened
 pub mod Resting
 pub mod Showing
 pub mod Standing
+pub mod Told
 pub mod Without

@@ -5,3 +5,4 @@ pub mod Laid
 pub mod Laws
 pub mod Recovered
 pub mod Resting
+pub mod Told

@@ -17,6 +17,7 @@ use Rattle.primary_ix.specs.declared.rows.PrimRow.{PrimRow}
 use Rattle.component_image.specs.Components.{components, end_of, IsInExtents}
 use Rattle.component_image.specs.Content.{ShowAll, Count}
 use Rattle.component_image.specs.Laid.{table_of}
+use Rattle.component_image.specs.Told.{AreTold}
 
 -- the live components of the primary, the newest first
 abbrev pub primary_of : Bytes → List Slot
@@ -45,10 +46,11 @@ abbrev pub IsBeside : Bytes → ℕ → Type 0
 IsBeside bytes i = IsLookedInSuperblock bytes i ⊎ (IsLooked bytes i ⊎ IsContent bytes i)
 
 -- The image of a device of so many pages opens, each live component shows a list, and the table is that of these lists with the
--- later writes of the log behind them.
+-- later writes of the log behind them. Each of these says truly at which point its key stood before it.
 pub record Recovers (pages : ℕ) (table : Table) (bytes : Bytes) : Type 0 where
   pub opens : Opens pages bytes
   pub lists : List (List PrimRow)
   pub shown : ShowAll bytes (primary_of bytes) lists
   pub counted : Count (primary_of bytes) lists
   pub table_is : table ≡ replayed (table_of lists) (later (end_of (primary_of bytes)) (records_of (segments_of LOG_START bytes)))
+  pub told : AreTold (table_of lists) (later (end_of (primary_of bytes)) (records_of (segments_of LOG_START bytes)))

@@ -10,8 +10,11 @@ use Rattle.table_model.specs.Table.{Table}
 use Rattle.wal_log.specs.declared.places.TheConstants.{LOG_BYTES}
 use Rattle.wal_log.specs.declared.log.Log.{Log}
 use Rattle.image_model.specs.declared.places.TheConstants.{LOG_START}
+use Rattle.wal_log.specs.Segments.{segments_of}
+use Rattle.comp_dir.specs.Directory.{directory_of}
 use Rattle.component_image.specs.Recovered.{IsBeside, Recovers}
 use Rattle.component_image.specs.Resting.{Rests}
+use Rattle.component_image.specs.Laws.Apart.{segments-apart, directory-apart}
 use Rattle.component_image.specs.Laws.Keeping.{elsewhere-images, elsewhere-rests}
 use Rattle.store_steps.specs.Steps.{IsFree, HasPage}
 
@@ -35,6 +38,13 @@ module _ (pages : ℕ) (log : Log) (table : Table) (s : Story) (now : Option Sto
 
   pub page-rests : (t : Story) → now ≡ Some t → Rests pages log table t
   page-rests t told = elsewhere-rests pages log table s t (page * 4096) 4096 now rest within told (free-beside page (bytes_of s) behind free) (free-apart page behind)
+
+-- directory and log read as before
+pub page-directory : (s t : Story) (now : Option Story) (page : ℕ) → 265 ≤ page → WritesWithin (page * 4096) 4096 s now → now ≡ Some t → directory_of (bytes_of t) ≡ directory_of (bytes_of s)
+page-directory s t now page behind within told = directory-apart (page * 4096) 4096 s t now within told (omega (arith, behind))
+
+pub page-segments : (s t : Story) (now : Option Story) (page : ℕ) → 265 ≤ page → WritesWithin (page * 4096) 4096 s now → now ≡ Some t → segments_of LOG_START (bytes_of t) ≡ segments_of LOG_START (bytes_of s)
+page-segments s t now page behind within told = segments-apart (page * 4096) 4096 s t now within told (free-apart page behind)
 
 -- a write of a page, whether it failed or not
 pub page-within : {X E : Type 0} (page at : ℕ) (new : List ℕ) (s : Story) (old now : Option Story) (r : Result X E) → at ≡ page * 4096 → length new ≡ 4096 → old ≡ Some s → Tells (Write at new) old now r → WritesWithin (page * 4096) 4096 s now

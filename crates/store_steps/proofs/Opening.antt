@@ -1,24 +1,28 @@
 -- The three steps of an install: the slot's bytes, the sync, and the gate.
-use Rattle.std.proofs.Common.{◌≡◌, inl, inr, ℕ, ◌+◌, ◌≤◌, List, [], ◌∷◌, Option, Some, refl, sym, ◌∙◌, ap, subst, arith}
+use Rattle.std.proofs.Common.{◌≡◌, inl, inr, ℕ, ◌+◌, ◌<◌, ◌≤◌, List, [], ◌∷◌, Option, Some, Result, refl, sym, ◌∙◌, ap, subst, arith}
 use Rattle.std.proofs.lemmas.Option.{same_Some}
-use Rattle.dev_model.specs.Story.{noted, Call, Read, Write, Sync, FailedWrite, FailedCall, Calls, Story, with_call, after, clock_of, bytes_of, IsOutside, IsReadable, IsSpared, IsCalmAt}
+use Rattle.dev_model.specs.Story.{noted, Call, Read, Write, Sync, FailedWrite, FailedCall, Calls, Story, with_call, after, clock_of, bytes_of, IsOutside, IsReadable, IsSpared, IsCalmAt, Tells, WhereTold}
 use Rattle.dev_model.specs.Moments.{LeavesOnly, WritesWithin, AreSpared}
 use Rattle.dev_model.specs.Laws.CallLists.{clock_of-after}
+use Rattle.dev_model.specs.Laws.Frame.{WritesWithin-did, WritesWithin-then, WritesWithin-wider}
+use Rattle.dev_model.specs.Laws.Plans.{Did-call}
 use Rattle.dev_model.specs.Laws.Runs.{LeavesOnly-then}
 use Rattle.table_model.specs.Table.{Table}
+use Rattle.wal_log.specs.Segments.{segments_of}
 use Rattle.wal_log.specs.declared.log.Log.{Log}
 use Rattle.wal_log.specs.declared.records.Record.{Record}
 use Rattle.image_model.specs.declared.places.TheConstants.{LOG_START}
 use Rattle.comp_dir.specs.Places.{slot_start}
 use Rattle.comp_dir.specs.Directory.{directory_of}
-use Rattle.comp_dir.specs.State.{IsAtRest as DirectoryAtRest, IsClosed, IsOneOf, IsReady, IsWritten as IsSlotWritten, with_slot}
-use Rattle.comp_dir.specs.Laws.Staying.{looked-beside, ready-synced}
+use Rattle.comp_dir.specs.State.{IsAtRest as DirectoryAtRest, IsClosed, IsOneOf, IsReady, IsWritten as IsSlotWritten, HasStayed, with_slot}
+use Rattle.comp_dir.specs.Laws.Staying.{directory-stays, looked-beside, ready-synced}
 use Rattle.comp_dir.specs.declared.places.TheConstants.{PRIMARY}
 use Rattle.comp_dir.specs.declared.slots.Slot.{Slot}
 use Rattle.primary_ix.specs.declared.rows.PrimRow.{PrimRow}
 use Rattle.component_image.specs.Components.{components, IsInExtent}
 use Rattle.component_image.specs.Recovered.{primary_of, IsBeside, Recovers}
 use Rattle.component_image.specs.Resting.{Rests, MayStand}
+use Rattle.component_image.specs.Laws.Apart.{segments-apart}
 use Rattle.component_image.specs.Laws.Keeping.{elsewhere-images, elsewhere-rests}
 use Rattle.component_image.specs.Laws.Resting.{content-behind, beside-agrees}
 use Rattle.component_image.specs.Laws.Standing.{may-stay}
@@ -135,6 +139,35 @@ module _ (pages : ℕ) (log : Log) (table : Table) (n : ℕ) (new : Slot) (froze
 
   pub gate-placed : (t : Story) → directory_of (bytes_of t) ≡ with_slot n new (directory_of (bytes_of s)) → primary_of (bytes_of t) ≡ new ∷ before
   gate-placed t opened = ap (components PRIMARY) opened ∙ is.may.components_are ∙ ap (λ (x : List Slot). new ∷ x) is.before_it
+
+-- Where an install writes: in its slot alone, up to the call that it ended at.
+pub slot-within : (n : ℕ) (s : Story) (now : Option Story) → WritesWithin (slot_start n + 1) 63 s now → WritesWithin (slot_start n) 64 s now
+slot-within n s now within = WritesWithin-wider (slot_start n + 1) 63 (slot_start n) 64 s now (omega arith) (omega arith) within
+
+pub synced-within : {X E : Type 0} (n : ℕ) (s : Story) (mid now : Option Story) (r : Result X E) → WritesWithin (slot_start n + 1) 63 s mid → Tells Sync mid now r → WritesWithin (slot_start n) 64 s now
+synced-within n s mid now r within tells =
+    WritesWithin-then (slot_start n) 64 s mid now (slot-within n s mid within)
+    (λ t told. WritesWithin-did (slot_start n) 64 t (Sync ∷ []) mid now r told (Did-call _ _ Sync mid now r tells) (λ i out. (tt, tt)))
+
+pub installed-within : {X E : Type 0} (n : ℕ) (s : Story) (mid synced now : Option Story) (r : Result X E) → WritesWithin (slot_start n + 1) 63 s mid → Tells Sync mid synced r
+    → WhereTold synced (λ u. WritesWithin (slot_start n) 1 u now) → WritesWithin (slot_start n) 64 s now
+installed-within n s mid synced now r within tells gate =
+    WritesWithin-then (slot_start n) 64 s synced now (synced-within n s mid synced r within tells)
+    (λ u told. WritesWithin-wider (slot_start n) 1 (slot_start n) 64 u now (omega arith) (omega arith) (gate u told))
+
+pub slot-segments : (n : ℕ) (s t : Story) (now : Option Story) → n < 512 → WritesWithin (slot_start n) 64 s now → now ≡ Some t → segments_of LOG_START (bytes_of t) ≡ segments_of LOG_START (bytes_of s)
+slot-segments n s t now below within told = segments-apart (slot_start n) 64 s t now within told (inl (omega (arith, below)))
+
+-- the directory once the slot is written, synced and open
+pub installed-directory : (n : ℕ) (new : Slot) (s : Story) (mid now : Option Story) → WritesWithin (slot_start n + 1) 63 s mid
+    → WhereTold mid DirectoryAtRest → WhereTold mid (λ t. directory_of (bytes_of t) ≡ directory_of (bytes_of s)) → WhereTold mid (IsSlotWritten n new)
+    → WhereTold (noted Sync mid) (λ u. DirectoryAtRest u → IsReady n new u → WhereTold now (λ t. directory_of (bytes_of t) ≡ with_slot n new (directory_of (bytes_of u))))
+    → WhereTold now (λ t. directory_of (bytes_of t) ≡ with_slot n new (directory_of (bytes_of s)))
+installed-directory n new s mid now within rest same written opened t told =
+    let r : Story = after s within.calls in
+    let stays : HasStayed r (with_call r Sync) = directory-stays r (Sync ∷ []) (rest r within.told) (λ i looked. (tt, tt)) in
+    opened (with_call r Sync) (ap (noted Sync) within.told) stays.at_rest (ready-synced n new r (written r within.told)) t told
+    ∙ ap (with_slot n new) (stays.reads ∙ same r within.told)
 
 -- What an install knows of its three calls, up to the one that it ended at.
 module _ (pages : ℕ) (log : Log) (table : Table) (n : ℕ) (new : Slot) (frozen : List Record) (lists : List (List PrimRow)) (s : Story) (rest : Rests pages log table s) (may : MayStand pages s n new frozen lists)

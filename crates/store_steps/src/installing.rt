@@ -2,19 +2,22 @@
 ghost use Rattle.std.specs.Prelude.{◌≡◌, ◌<◌, ◌≤◌, ◌∷◌, List, OnOk};
 ghost use Rattle.dev_model.specs.Counts.{HasCause};
 ghost use Rattle.dev_model.specs.Story.{WhereTold, Did, Ticks, bytes_of};
-ghost use Rattle.dev_model.specs.Moments.{LeavesOnly};
+ghost use Rattle.dev_model.specs.Moments.{LeavesOnly, WritesWithin};
 ghost use Rattle.table_model.specs.Table.{Table};
+ghost use Rattle.wal_log.specs.Segments.{segments_of};
 ghost use Rattle.wal_log.specs.declared.log.Log.{Log};
 ghost use Rattle.wal_log.specs.declared.records.Record.{Record};
-ghost use Rattle.comp_dir.specs.State.{IsClosed, install_calls};
+ghost use Rattle.comp_dir.specs.Places.{slot_start};
+ghost use Rattle.comp_dir.specs.Directory.{directory_of};
+ghost use Rattle.comp_dir.specs.State.{IsAtRest as DirectoryAtRest, IsClosed, install_calls, with_slot};
 ghost use Rattle.primary_ix.specs.declared.rows.PrimRow.{PrimRow};
 ghost use Rattle.component_image.specs.Recovered.{primary_of, Recovers};
 ghost use Rattle.component_image.specs.Resting.{Rests, MayStand};
 ghost use Rattle.store_steps.specs.Steps.{IsWritten};
 
-use comp_dir::{SLOTS, Slot, open_gate, write_slot};
+use comp_dir::{SLOT_BYTES, SLOTS, Slot, open_gate, write_slot};
 use dev_model::{Device, Failed};
-use image_model::LOG_PAGES;
+use image_model::{LOG_PAGES, LOG_START};
 
 /// Installs a component whose pages are written: writes its slot, syncs, opens the slot's gate and syncs. It stops at the call
 /// that fails. The first sync puts the pages on the disk too, so a component is open only where its pages are.
@@ -24,6 +27,8 @@ pub fn install_component<D: Device>(device: &mut D, n: u16, slot: &Slot) -> Resu
 
     ensures did { Did (install_calls n slot.now) (D.story device.old) (D.story device.new) result }
     ensures ticks { Ticks 4 (D.clock device.old) (D.clock device.new) result }
+    ensures within { WhereTold (D.story device.old) (λ s. WritesWithin (slot_start n) SLOT_BYTES s (D.story device.new)) }
+    ensures same_segments { WhereTold (D.story device.old) (λ s. WhereTold (D.story device.new) (λ t. segments_of LOG_START (bytes_of t) ≡ segments_of LOG_START (bytes_of s))) }
 
     // Each crash at each moment leaves the table, with the component or without it; after `Ok` the store is at rest with it.
     ensures any_moment { (log : Log) (table : Table) (frozen : List Record) (lists : List (List PrimRow)) → WhereTold (D.story device.old) (λ s.
@@ -32,6 +37,8 @@ pub fn install_component<D: Device>(device: &mut D, n: u16, slot: &Slot) -> Resu
     ensures rests { (log : Log) (table : Table) (frozen : List Record) (lists : List (List PrimRow)) → OnOk result (WhereTold (D.story device.old) (λ s.
         Rests (D.pages device.old) log table s → MayStand (D.pages device.old) s n slot.now frozen lists → IsClosed n s → IsWritten slot.now s →
         WhereTold (D.story device.new) (Rests (D.pages device.old) log table))) }
+    ensures installed { OnOk result (WhereTold (D.story device.old) (λ s. DirectoryAtRest s → IsClosed n s → WhereTold (D.story device.new)
+        (λ t. directory_of (bytes_of t) ≡ with_slot n slot.now (directory_of (bytes_of s))))) }
     ensures placed { (log : Log) (table : Table) (frozen : List Record) (lists : List (List PrimRow)) → OnOk result (WhereTold (D.story device.old) (λ s.
         Rests (D.pages device.old) log table s → MayStand (D.pages device.old) s n slot.now frozen lists → IsClosed n s → IsWritten slot.now s →
         WhereTold (D.story device.new) (λ t. primary_of (bytes_of t) ≡ slot.now ∷ primary_of (bytes_of s)))) }

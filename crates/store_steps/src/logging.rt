@@ -1,20 +1,25 @@
 // Records that are appended, and changes of the log's segments.
-ghost use Rattle.std.specs.Prelude.{◌≡◌, ◌+◌, ◌<◌, ◌≤◌, IfOk, OnOk, ℕ, get_or, false};
+ghost use Rattle.std.specs.Prelude.{◌≡◌, ◌+◌, ◌<◌, ◌≤◌, ◌++◌, ◌∷◌, [], IfOk, OnErr, OnOk, ℕ, length, get_or, set, false, true};
 ghost use Rattle.dev_model.specs.Counts.{HasCause};
 ghost use Rattle.dev_model.specs.Story.{WhereTold, Did, Ticks, bytes_of};
-ghost use Rattle.dev_model.specs.Moments.{LeavesOnly};
+ghost use Rattle.dev_model.specs.Moments.{LeavesOnly, WritesWithin};
 ghost use Rattle.table_model.specs.Table.{Table};
 ghost use Rattle.table_model.specs.Answers.{after_write};
-ghost use Rattle.wal_log.specs.Records.{HasOld};
+ghost use Rattle.wal_log.specs.Later.{later};
+ghost use Rattle.wal_log.specs.Records.{HasOld, record_bytes};
+ghost use Rattle.wal_log.specs.Rules.{records_of};
+ghost use Rattle.wal_log.specs.Segments.{segments_of};
 ghost use Rattle.wal_log.specs.State.{IsCounted, append_calls, turn_calls, following, close_count};
 ghost use Rattle.image_model.specs.Recovered.{write_of};
+ghost use Rattle.comp_dir.specs.Directory.{directory_of};
 ghost use Rattle.component_image.specs.Components.{end_of};
 ghost use Rattle.component_image.specs.Recovered.{primary_of, Recovers};
 ghost use Rattle.component_image.specs.Resting.{Rests, RecoversEither};
+ghost use Rattle.component_image.specs.Told.{SaysOld};
 
 use dev_model::{Device, Failed};
 use image_model::{LOG_PAGES, LOG_START};
-use wal_log::{LSN_LIMIT, Log, MOST_RECORDS, Record};
+use wal_log::{LOG_BYTES, LSN_LIMIT, Log, MOST_RECORDS, Record};
 
 /// Logs a write of the store. It answers the device's clock from which on each crash leaves it.
 pub fn append_record<D: Device>(
@@ -33,18 +38,29 @@ pub fn append_record<D: Device>(
     ensures did { Did (append_calls log.old logged.now) (D.story device.old) (D.story device.new) result }
     ensures ticks { Ticks 4 (D.clock device.old) (D.clock device.new) result }
     ensures ack { IfOk result (λ ack. ack ≡ D.clock device.new) }
+    ensures within { WhereTold (D.story device.old) (λ s. WritesWithin LOG_START LOG_BYTES s (D.story device.new)) }
+    ensures same_directory { WhereTold (D.story device.old) (λ s. WhereTold (D.story device.new) (λ t. directory_of (bytes_of t) ≡ directory_of (bytes_of s))) }
 
     // Each crash at each moment leaves the table before the write, or the one behind it; after `Ok` the store is at rest with it.
-    ensures any_moment { (table : Table) → WhereTold (D.story device.old) (λ s. Rests (D.pages device.old) log.old table s → end_of (primary_of (bytes_of s)) < logged.now.lsn →
+    // The record has to say truly at which point its key stood.
+    ensures any_moment { (table : Table) → WhereTold (D.story device.old) (λ s. Rests (D.pages device.old) log.old table s → end_of (primary_of (bytes_of s)) < logged.now.lsn → SaysOld table logged.now →
         LeavesOnly s (D.story device.new) (RecoversEither (D.pages device.old) table (after_write table (write_of logged.now.op)))) }
-    ensures rests { (table : Table) → OnOk result (WhereTold (D.story device.old) (λ s. Rests (D.pages device.old) log.old table s → end_of (primary_of (bytes_of s)) < logged.now.lsn →
+    ensures rests { (table : Table) → OnOk result (WhereTold (D.story device.old) (λ s. Rests (D.pages device.old) log.old table s → end_of (primary_of (bytes_of s)) < logged.now.lsn → SaysOld table logged.now →
         WhereTold (D.story device.new) (Rests (D.pages device.old) log.new (after_write table (write_of logged.now.op))))) }
 
+    // After `Ok` the log has the record behind those that no component holds.
+    ensures later_records { (table : Table) → OnOk result (WhereTold (D.story device.old) (λ s. Rests (D.pages device.old) log.old table s → end_of (primary_of (bytes_of s)) < logged.now.lsn →
+        WhereTold (D.story device.new) (λ t. later (end_of (primary_of (bytes_of t))) (records_of (segments_of LOG_START (bytes_of t)))
+        ≡ later (end_of (primary_of (bytes_of s))) (records_of (segments_of LOG_START (bytes_of s))) ++ logged.now ∷ []))) }
+
+    ensures width { length (record_bytes logged.now) ≡ 95 }
     ensures counted { OnOk result (IsCounted log.new) }
     ensures start { log.new.start ≡ log.old.start }
     ensures generation { log.new.generation ≡ log.old.generation }
+    ensures open_headers { log.new.open_headers ≡ log.old.open_headers }
     ensures records { OnOk result (log.new.records ≡ log.old.records + 1) }
     ensures next_lsn { OnOk result (log.new.next_lsn ≡ log.old.next_lsn + 1) }
+    ensures unchanged { OnErr result (log.new ≡ log.old) }
     ensures same_pages { D.pages device.new ≡ D.pages device.old }
     ensures cause { HasCause (D.fault_count device.old) (D.fault_count device.new) result }
 {
@@ -62,6 +78,8 @@ pub fn change_segments<D: Device>(device: &mut D, log: &mut Log) -> Result<(), F
 
     ensures did { Did (turn_calls log.old) (D.story device.old) (D.story device.new) result }
     ensures ticks { Ticks (close_count (get_or log.old.open_headers (following log.old) false) + 4) (D.clock device.old) (D.clock device.new) result }
+    ensures within { WhereTold (D.story device.old) (λ s. WritesWithin LOG_START LOG_BYTES s (D.story device.new)) }
+    ensures same_directory { WhereTold (D.story device.old) (λ s. WhereTold (D.story device.new) (λ t. directory_of (bytes_of t) ≡ directory_of (bytes_of s))) }
 
     // Each crash at each moment leaves the table; after `Ok` the store is at rest with the new segment.
     ensures any_moment { (table : Table) → WhereTold (D.story device.old) (λ s. Rests (D.pages device.old) log.old table s → end_of (primary_of (bytes_of s)) + 1 + log.old.records ≡ log.old.next_lsn →
@@ -69,11 +87,18 @@ pub fn change_segments<D: Device>(device: &mut D, log: &mut Log) -> Result<(), F
     ensures rests { (table : Table) → OnOk result (WhereTold (D.story device.old) (λ s. Rests (D.pages device.old) log.old table s → end_of (primary_of (bytes_of s)) + 1 + log.old.records ≡ log.old.next_lsn →
         WhereTold (D.story device.new) (Rests (D.pages device.old) log.new table))) }
 
+    // After `Ok` the log has the same records that no component holds.
+    ensures later_records { (table : Table) → OnOk result (WhereTold (D.story device.old) (λ s. Rests (D.pages device.old) log.old table s → end_of (primary_of (bytes_of s)) + 1 + log.old.records ≡ log.old.next_lsn →
+        WhereTold (D.story device.new) (λ t. later (end_of (primary_of (bytes_of t))) (records_of (segments_of LOG_START (bytes_of t)))
+        ≡ later (end_of (primary_of (bytes_of s))) (records_of (segments_of LOG_START (bytes_of s)))))) }
+
     ensures counted { OnOk result (IsCounted log.new) }
     ensures start { log.new.start ≡ log.old.start }
     ensures generation { OnOk result (log.new.generation ≡ log.old.generation + 1) }
+    ensures open_headers { OnOk result (log.new.open_headers ≡ set log.old.open_headers (following log.old) true) }
     ensures records { OnOk result (log.new.records ≡ 0) }
     ensures next_lsn { log.new.next_lsn ≡ log.old.next_lsn }
+    ensures unchanged { OnErr result (log.new ≡ log.old) }
     ensures same_pages { D.pages device.new ≡ D.pages device.old }
     ensures cause { HasCause (D.fault_count device.old) (D.fault_count device.new) result }
 {

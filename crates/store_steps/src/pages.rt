@@ -4,13 +4,16 @@ ghost use Rattle.dev_model.specs.Counts.{HasCause};
 ghost use Rattle.dev_model.specs.Story.{WhereTold, Did, Ticks, Write, bytes_of};
 ghost use Rattle.dev_model.specs.Moments.{LeavesOnly, WritesWithin};
 ghost use Rattle.table_model.specs.Table.{Table};
+ghost use Rattle.wal_log.specs.Segments.{segments_of};
 ghost use Rattle.wal_log.specs.declared.log.Log.{Log};
+ghost use Rattle.comp_dir.specs.Directory.{directory_of};
 ghost use Rattle.component_image.specs.Recovered.{Recovers};
 ghost use Rattle.component_image.specs.Resting.{Rests};
 ghost use Rattle.store_steps.specs.Steps.{IsFree, HasPage};
 
 use comp_dir::FIRST_DATA_PAGE;
 use dev_model::{Device, Failed};
+use image_model::LOG_START;
 use page_codec::PAGE_BYTES;
 
 /// Writes a page behind the log, in one write, and doesn't sync. Where no component has the page, each crash at each moment
@@ -26,6 +29,8 @@ pub fn write_page<D: Device>(
     ensures did { Did (Write (page * PAGE_BYTES) bytes.now ∷ []) (D.story device.old) (D.story device.new) result }
     ensures ticks { Ticks 1 (D.clock device.old) (D.clock device.new) result }
     ensures within { WhereTold (D.story device.old) (λ s. WritesWithin (page * PAGE_BYTES) PAGE_BYTES s (D.story device.new)) }
+    ensures same_directory { WhereTold (D.story device.old) (λ s. WhereTold (D.story device.new) (λ t. directory_of (bytes_of t) ≡ directory_of (bytes_of s))) }
+    ensures same_segments { WhereTold (D.story device.old) (λ s. WhereTold (D.story device.new) (λ t. segments_of LOG_START (bytes_of t) ≡ segments_of LOG_START (bytes_of s))) }
 
     ensures any_moment { (log : Log) (table : Table) → WhereTold (D.story device.old) (λ s. Rests (D.pages device.old) log table s → IsFree page (bytes_of s) →
         LeavesOnly s (D.story device.new) (Recovers (D.pages device.old) table)) }

@@ -138,8 +138,11 @@ fn stepped(failing: u64, alloc: Global) -> Option<(MemDevice, Result<(), Step>)>
     Some((device, installed))
 }
 
-/// The open slots, and the numbers of those that are live.
-fn directory(device: &mut MemDevice, alloc: Global) -> Option<(Vec<(u16, Slot)>, Vec<u16>)>
+/// The open slots, and those that are live.
+fn directory(
+    device: &mut MemDevice,
+    alloc: Global,
+) -> Option<(Vec<(u16, Slot)>, Vec<(u16, Slot)>)>
     requires { device.old.pages ≡ 1024 }
     ensures { device.new.pages ≡ 1024 }
 {
@@ -174,7 +177,7 @@ fn a_logged_put_goes_into_a_component(rt: HostRuntime) -> Result<(), Fail> {
         panic!(rt; "no directory");
     };
     assert_eq!(rt; &found[..], &[(0, SLOT)][..]);
-    assert_eq!(rt; &live[..], &[0][..]);
+    assert_eq!(rt; &live[..], &[(0, SLOT)][..]);
     let Some((generation, numbers)) = logged(&mut device, alloc) else {
         panic!(rt; "no log");
     };

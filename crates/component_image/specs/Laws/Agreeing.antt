@@ -27,6 +27,7 @@ use Rattle.primary_ix.specs.declared.rows.PrimRow.{PrimRow}
 use Rattle.component_image.specs.Components.{components, end_of, IsInExtent, IsInExtents}
 use Rattle.component_image.specs.Content.{page_at, Shows, ShowAll, Count}
 use Rattle.component_image.specs.Laid.{table_of}
+use Rattle.component_image.specs.Told.{AreTold}
 use Rattle.component_image.specs.Recovered.{primary_of, ends_of, IsLookedAt, IsContent, Recovers}
 use Rattle.component_image.specs.Laws.Components.{AllOf, components-all}
 
@@ -72,10 +73,12 @@ pub record AgreeBeside (a b : Bytes) : Type 0 where
   pub directory : directory_of b ≡ directory_of a
   pub content : (i : ℕ) → IsContent a i → b i ≡ a i
 
--- beside a log that opens, the image recovers to the same lists with the later writes of that log behind them
+-- Beside a log that opens, whose later records are told of the lists, the image recovers to the same lists with these writes behind
+-- them.
 pub recovers-beside : (pages : ℕ) (table : Table) (a b : Bytes) (r : Recovers pages table a) → AgreeBeside a b → LogOpens (ends_of (primary_of a)) (segments_of LOG_START b)
+    → AreTold (table_of r.lists) (later (end_of (primary_of a)) (records_of (segments_of LOG_START b)))
     → Recovers pages (replayed (table_of r.lists) (later (end_of (primary_of a)) (records_of (segments_of LOG_START b)))) b
-recovers-beside pages table a b r agree log =
+recovers-beside pages table a b r agree log told =
     let slots : primary_of b ≡ primary_of a = ap (components PRIMARY) agree.directory in
     record {
       opens = record {
@@ -87,6 +90,7 @@ recovers-beside pages table a b r agree log =
       shown = subst (λ (x : List Slot). ShowAll b x r.lists) (sym slots) (ShowAll-same a b (primary_of a) r.lists (primaries pages 0 (directory_of a) r.opens.directory) agree.content r.shown);
       counted = subst (λ (x : List Slot). Count x r.lists) (sym slots) r.counted;
       table_is = ap (λ (x : List Slot). replayed (table_of r.lists) (later (end_of x) (records_of (segments_of LOG_START b)))) (sym slots);
+      told = subst (λ (x : List Slot). AreTold (table_of r.lists) (later (end_of x) (records_of (segments_of LOG_START b)))) (sym slots) told;
     }
 
 -- images that agree at all that an opening looks at and at the pages of the components recover to the same table
@@ -95,4 +99,5 @@ recovers-same pages table a b same content r =
     let segments : segments_of LOG_START b ≡ segments_of LOG_START a = log-same a b (λ i looked. same i (inr (inr looked))) in
     let agree : AgreeBeside a b = record { superblock = λ i looked. same i (inl looked); directory = directory-same a b (λ i looked. same i (inr (inl looked))); content = content } in
     subst (λ (t : Table). Recovers pages t b) (ap (λ (x : Segments). replayed (table_of r.lists) (later (end_of (primary_of a)) (records_of x))) segments ∙ sym r.table_is)
-    (recovers-beside pages table a b r agree (subst (LogOpens (ends_of (primary_of a))) (sym segments) r.opens.log))
+    (recovers-beside pages table a b r agree (subst (LogOpens (ends_of (primary_of a))) (sym segments) r.opens.log)
+    (subst (λ (x : Segments). AreTold (table_of r.lists) (later (end_of (primary_of a)) (records_of x))) (sym segments) r.told))

@@ -21,8 +21,10 @@ use Rattle.component_image.specs.Components.{end_of}
 use Rattle.component_image.specs.Content.{Shows, ShowAll, Count}
 use Rattle.component_image.specs.Laid.{laid, table_of}
 use Rattle.component_image.specs.Recovered.{primary_of, ends_of, IsContent, Recovers}
+use Rattle.component_image.specs.Told.{AreTold}
 use Rattle.component_image.specs.Laws.Agreeing.{primaries, ShowAll-same}
 use Rattle.component_image.specs.Laws.Laid.{laid-changed}
+use Rattle.component_image.specs.Laws.Told.{told-behind}
 
 -- What an image has beside what an older one had: one component more, which ends with this write and shows the rows of the log's
 -- writes up to there.
@@ -37,13 +39,16 @@ pub record HasPlaced (pages : ℕ) (a b : Bytes) (new : Slot) (frozen : List Rec
   pub log : LogOpens (ends_of (new ∷ [])) (segments_of LOG_START a)
   pub split : later (end_of (primary_of a)) (records_of (segments_of LOG_START a)) ≡ frozen ++ later new.last_lsn (records_of (segments_of LOG_START a))
 
--- an install leaves the table as it is
+-- An install leaves the table as it is. The rows of the component make the table after the first of the later writes, so the others
+-- are told of what the components now hold.
 pub recovers-placed : (pages : ℕ) (table : Table) (a b : Bytes) (r : Recovers pages table a) (new : Slot) (frozen : List Record) → HasPlaced pages a b new frozen r.lists → Recovers pages table b
 recovers-placed pages table a b r new frozen has =
     let rest : List Record = later new.last_lsn (records_of (segments_of LOG_START a)) in
     let over : laid (changed [] frozen) (table_of r.lists) ≡ replayed (table_of r.lists) frozen = laid-changed [] frozen (table_of r.lists) in
     let now : replayed (table_of (changed [] frozen ∷ r.lists)) rest ≡ table =
     ap (λ (t : Table). replayed t rest) over ∙ sym (replayed-append (table_of r.lists) frozen rest) ∙ ap (replayed (table_of r.lists)) (sym has.split) ∙ sym r.table_is in
+    let told : AreTold (table_of (changed [] frozen ∷ r.lists)) rest =
+    subst (λ (t : Table). AreTold t rest) (sym over) (told-behind (table_of r.lists) frozen rest (subst (AreTold (table_of r.lists)) has.split r.told)) in
     record {
       opens = record {
         formatted = formatted-same pages a b has.superblock r.opens.formatted;
@@ -58,4 +63,6 @@ recovers-placed pages table a b r new frozen has =
       table_is = sym now
           ∙ ap (λ (s : Segments). replayed (table_of (changed [] frozen ∷ r.lists)) (later new.last_lsn (records_of s))) (sym has.segments)
           ∙ ap (λ (x : List Slot). replayed (table_of (changed [] frozen ∷ r.lists)) (later (end_of x) (records_of (segments_of LOG_START b)))) (sym has.components_are);
+      told = subst (λ (x : List Slot). AreTold (table_of (changed [] frozen ∷ r.lists)) (later (end_of x) (records_of (segments_of LOG_START b)))) (sym has.components_are)
+          (subst (λ (s : Segments). AreTold (table_of (changed [] frozen ∷ r.lists)) (later new.last_lsn (records_of s))) (sym has.segments) told);
     }

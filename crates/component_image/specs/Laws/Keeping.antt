@@ -22,6 +22,7 @@ use Rattle.image_model.specs.Recovered.{write_of}
 use Rattle.component_image.specs.Components.{end_of}
 use Rattle.component_image.specs.Recovered.{primary_of, ends_of, IsLookedAt, IsBeside, Recovers}
 use Rattle.component_image.specs.Resting.{Rests, RecoversEither}
+use Rattle.component_image.specs.Told.{SaysOld}
 use Rattle.component_image.specs.Laws.Agreeing.{AgreeBeside, recovers-same}
 use Rattle.component_image.specs.Laws.Logging.{recovers-kept, recovers-logged, recovers-append, recovers-turn}
 use Rattle.component_image.specs.Laws.Resting.{beside-log, beside-images, beside-agrees, rests-beside}
@@ -42,23 +43,23 @@ module _ (pages : ℕ) (log : Log) (table : Table) (s t : Story) (at count : ℕ
   agrees = beside-agrees pages log table s t at count now rest within told outside
 
   -- an append: the table before the write, or the one behind it
-  pub append-images : (r : Record) → end_of (primary_of (bytes_of s)) < r.lsn
+  pub append-images : (r : Record) → end_of (primary_of (bytes_of s)) < r.lsn → SaysOld table r
       → EachMoment (clock_of s) t (λ _ image. HasRecordsOr (ends_of (primary_of (bytes_of s))) (records_of (segments_of LOG_START (bytes_of s))) r (segments_of LOG_START image))
       → EachMoment (clock_of s) t (λ _. RecoversEither pages table (after_write table (write_of r.op)))
-  append-images r behind records =
+  append-images r behind says records =
       EachMoment-weaker (clock_of s) t
       (λ _ image. AgreeBeside (bytes_of s) image × HasRecordsOr (ends_of (primary_of (bytes_of s))) (records_of (segments_of LOG_START (bytes_of s))) r (segments_of LOG_START image))
       (λ _. RecoversEither pages table (after_write table (write_of r.op)))
-      (λ m image both. recovers-append pages table (bytes_of s) image rest.recovers both.0 r behind both.1)
+      (λ m image both. recovers-append pages table (bytes_of s) image rest.recovers both.0 r behind says both.1)
       (EachMoment-both (clock_of s) t (λ _ image. AgreeBeside (bytes_of s) image)
       (λ _ image. HasRecordsOr (ends_of (primary_of (bytes_of s))) (records_of (segments_of LOG_START (bytes_of s))) r (segments_of LOG_START image)) images records)
 
-  pub append-rests : (r : Record) (next : Log) → end_of (primary_of (bytes_of s)) < r.lsn → next.start ≡ LOG_START → LogAtRest next t → IsLogOf next (segments_of LOG_START (bytes_of t))
+  pub append-rests : (r : Record) (next : Log) → end_of (primary_of (bytes_of s)) < r.lsn → SaysOld table r → next.start ≡ LOG_START → LogAtRest next t → IsLogOf next (segments_of LOG_START (bytes_of t))
       → OpensAs (ends_of (primary_of (bytes_of s))) (records_of (segments_of LOG_START (bytes_of s)) ++ r ∷ []) (segments_of LOG_START (bytes_of t))
       → Rests pages next (after_write table (write_of r.op)) t
-  append-rests r next behind start log_rest log_of opens =
+  append-rests r next behind says start log_rest log_of opens =
       rests-beside pages log table s t at count now rest within told outside next (after_write table (write_of r.op)) start log_rest log_of
-      (recovers-logged pages table (bytes_of s) (bytes_of t) rest.recovers agrees r behind opens)
+      (recovers-logged pages table (bytes_of s) (bytes_of t) rest.recovers agrees r behind says opens)
 
   -- a change of segments: the same table
   pub turn-images : (k : ℕ) → later (end_of (primary_of (bytes_of s))) (records_of (set (segments_of LOG_START (bytes_of s)) k None)) ≡ later (end_of (primary_of (bytes_of s))) (records_of (segments_of LOG_START (bytes_of s)))

@@ -22,6 +22,7 @@ use Rattle.primary_ix.specs.declared.rows.PrimRow.{PrimRow}
 use Rattle.component_image.specs.Content.{ShowAll, Count}
 use Rattle.component_image.specs.Laid.{table_of}
 use Rattle.component_image.specs.Recovered.{primary_of, ends_of, Recovers}
+use Rattle.component_image.specs.Told.{AreTold}
 
 none_open : (count n m : ℕ) (bytes : Bytes) → ((k : ℕ) → n ≤ k → k < n + count → bytes (slot_start k) ≢ 165) → open_from m (slots_from count n bytes) ≡ []
 unfolding slots_from
@@ -62,9 +63,9 @@ module _ (bytes : Bytes) (none : HasNoComponent bytes) where
       by_order [] opens = refl
       by_order (n ∷ ns) opens = later-whole 0 (first_lsn_of n) (records_in (n ∷ ns)) (numbered (0 ∷ []) None n ns opens) (omega (arith, opens.0.segment.start.follows.1))
 
-  -- it recovers as an image that has none
-  pub recovers-alone : (pages : ℕ) (table : Table) → RecoversAlone pages table bytes → Recovers pages table bytes
-  recovers-alone pages table r = record {
+  -- it recovers as an image that has none, where the log's records are told of the empty table
+  pub recovers-alone : (pages : ℕ) (table : Table) → RecoversAlone pages table bytes → AreTold empty (records_of (segments_of LOG_START bytes)) → Recovers pages table bytes
+  recovers-alone pages table r told = record {
     opens = record {
       formatted = r.opens.formatted;
       directory = directory_opens pages;
@@ -75,7 +76,13 @@ module _ (bytes : Bytes) (none : HasNoComponent bytes) where
     counted = subst (λ (x : List Slot). Count x []) (sym no_components) tt;
     table_is = sym r.table_is ∙ ap (replayed empty) (sym (all_later r.opens.log))
         ∙ ap (λ (x : List Slot). replayed empty (later (end_of x) (records_of (segments_of LOG_START bytes)))) (sym no_components);
+    told = subst (λ (x : List Slot). AreTold empty (later (end_of x) (records_of (segments_of LOG_START bytes)))) (sym no_components)
+        (subst (AreTold empty) (sym (all_later r.opens.log)) told);
   }
+
+  no_lists : (lists : List (List PrimRow)) → ShowAll bytes [] lists → lists ≡ []
+  no_lists [] shown = refl
+  no_lists (rows ∷ lists) shown = absurd shown
 
   pub alone-recovers : (pages : ℕ) (table : Table) → Recovers pages table bytes → RecoversAlone pages table bytes
   alone-recovers pages table r =
@@ -87,7 +94,10 @@ module _ (bytes : Bytes) (none : HasNoComponent bytes) where
             ∙ ap (replayed (table_of r.lists)) (all_later log)
             ∙ ap (λ (l : List (List PrimRow)). replayed (table_of l) (records_of (segments_of LOG_START bytes))) (no_lists r.lists (subst (λ (x : List Slot). ShowAll bytes x r.lists) no_components r.shown)));
       }
-    where
-      no_lists : (lists : List (List PrimRow)) → ShowAll bytes [] lists → lists ≡ []
-      no_lists [] shown = refl
-      no_lists (rows ∷ lists) shown = absurd shown
+
+  pub alone-told : (pages : ℕ) (table : Table) → Recovers pages table bytes → AreTold empty (records_of (segments_of LOG_START bytes))
+  alone-told pages table r =
+      let log : LogOpens (0 ∷ []) (segments_of LOG_START bytes) = subst (λ (x : List Slot). LogOpens (ends_of x) (segments_of LOG_START bytes)) no_components r.opens.log in
+      subst (λ (l : List (List PrimRow)). AreTold (table_of l) (records_of (segments_of LOG_START bytes))) (no_lists r.lists (subst (λ (x : List Slot). ShowAll bytes x r.lists) no_components r.shown))
+      (subst (AreTold (table_of r.lists)) (all_later log)
+      (subst (λ (x : List Slot). AreTold (table_of r.lists) (later (end_of x) (records_of (segments_of LOG_START bytes)))) no_components r.told))

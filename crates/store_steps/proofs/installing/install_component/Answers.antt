@@ -2,8 +2,43 @@ use Rattle.std.proofs.Common.{[], ◌∷◌, ◌∙◌}
 use Rattle.dev_model.specs.Story.{Sync}
 use Rattle.dev_model.specs.Laws.Frame.{WritesWithin-did}
 use Rattle.dev_model.specs.Laws.Plans.{Did-call}
-use Rattle.store_steps.proofs.Opening.{slot-leaves, unsynced-leaves, opened-leaves, installed-rests, installed-placed}
+use Rattle.store_steps.proofs.Opening.{slot-leaves, unsynced-leaves, opened-leaves, installed-rests, installed-placed, slot-within, synced-within, installed-within, slot-segments, installed-directory}
 use Rattle.store_steps.proofs.installing.install_component.Goals as goal
+
+pub returns-in_err-write_slot-clause-within : goal.returns-in_err-write_slot-clause-within
+returns-in_err-write_slot-clause-within g c s is = slot-within c.args.n s (g.D.Device.story c.write_slot.new.device) (c.write_slot.ensures.within s is)
+
+pub returns-in_err-sync-clause-within : goal.returns-in_err-sync-clause-within
+returns-in_err-sync-clause-within g c s is =
+    synced-within c.args.n s (g.D.Device.story c.write_slot.new.device) (g.D.Device.story c.sync.new.self) c.sync.result (c.write_slot.ensures.within s is) c.sync.ensures.told
+
+pub returns-in_err-sync-clause-same_segments : goal.returns-in_err-sync-clause-same_segments
+returns-in_err-sync-clause-same_segments g c s is t told =
+    slot-segments c.args.n s t (g.D.Device.story c.sync.new.self) c.requires.below (returns-in_err-sync-clause-within g c s is) told
+
+pub returns-in_err-open_gate-clause-within : goal.returns-in_err-open_gate-clause-within
+returns-in_err-open_gate-clause-within g c s is =
+    installed-within c.args.n s (g.D.Device.story c.write_slot.new.device) (g.D.Device.story c.sync.new.self) (g.D.Device.story c.open_gate.new.device) c.sync.result
+    (c.write_slot.ensures.within s is) c.sync.ensures.told c.open_gate.ensures.within
+
+pub returns-in_err-open_gate-clause-same_segments : goal.returns-in_err-open_gate-clause-same_segments
+returns-in_err-open_gate-clause-same_segments g c s is t told =
+    slot-segments c.args.n s t (g.D.Device.story c.open_gate.new.device) c.requires.below (returns-in_err-open_gate-clause-within g c s is) told
+
+pub returns-clause-within : goal.returns-clause-within
+returns-clause-within g c s is =
+    installed-within c.args.n s (g.D.Device.story c.write_slot.new.device) (g.D.Device.story c.sync.new.self) (g.D.Device.story c.open_gate.new.device) c.sync.result
+    (c.write_slot.ensures.within s is) c.sync.ensures.told c.open_gate.ensures.within
+
+pub returns-clause-same_segments : goal.returns-clause-same_segments
+returns-clause-same_segments g c s is t told =
+    slot-segments c.args.n s t (g.D.Device.story c.open_gate.new.device) c.requires.below (returns-clause-within g c s is) told
+
+pub returns-clause-installed : goal.returns-clause-installed
+returns-clause-installed g c s is rest closed =
+    installed-directory c.args.n c.args.slot.now s (g.D.Device.story c.write_slot.new.device) (g.D.Device.story c.open_gate.new.device) (c.write_slot.ensures.within s is)
+    (c.write_slot.ensures.at_rest s is rest closed) (c.write_slot.ensures.same s is rest closed) (c.in_ok-write_slot.ensures.written s is closed)
+    (λ u told. c.in_ok-open_gate.ensures.opened c.args.slot.now u (c.in_ok-sync.ensures.told ∙ told))
 
 pub returns-in_err-write_slot-clause-any_moment : goal.returns-in_err-write_slot-clause-any_moment
 returns-in_err-write_slot-clause-any_moment g c log table frozen lists s is rest may closed written =
