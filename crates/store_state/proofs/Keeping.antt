@@ -1,0 +1,123 @@
+-- Each step keeps what is true of the lists.
+use Rattle.std.proofs.Common.{◌≡◌, ℕ, ◌+◌, ◌<◌, ◌≤◌, List, ◌∷◌, ◌++◌, length, Option, Some, None, All, arith, ap, refl, sym, ◌∙◌, subst}
+use Rattle.std.proofs.lemmas.List.Elements.{All-cons}
+use Rattle.btree_image.specs.Rows.{IsStored}
+use Rattle.order_merge.specs.Adding.{with_entry}
+use Rattle.order_merge.specs.Entries.{Ascends}
+use Rattle.space_map.specs.Space.{Space, IsSpace, is_reserved}
+use Rattle.space_map.specs.declared.space.TheConstants.{LEAST_PAGES, MOST_PAGES}
+use Rattle.order_merge.specs.laws.Adding.{Ascends-with_entry, All-with_entry}
+use Rattle.comp_dir.specs.Directory.{Numbered}
+use Rattle.comp_dir.specs.declared.places.TheConstants.{LSN_LIMIT, MOST_LIVE, PRIMARY}
+use Rattle.comp_dir.specs.declared.slots.Slot.{Slot}
+use Rattle.primary_ix.specs.Kinds.{prim_key_order}
+use Rattle.primary_ix.specs.Rows.{prim_layout, prim_reading}
+use Rattle.primary_ix.specs.declared.rows.PrimRow.{PrimRow}
+use Rattle.build_job.specs.Jobs.{described}
+use Rattle.store_state.specs.declared.jobs.JobRow.{JobRow}
+use Rattle.store_state.specs.Laws.Planned.{job-IsPlanned, planned-IsSound}
+use Rattle.store_state.specs.Lists.{Lists, IsLists, IsPlanned, IsPlannedIf, IsOpenSlot, job_of, job_extents, extents_of, open_of, frozen_rows, placed_up_to}
+use Rattle.store_state.specs.Opened.{opened}
+use Rattle.store_state.specs.Steps.{installed}
+
+-- the lists with other rows in memory
+abbrev pub with_active : List PrimRow → ℕ → Lists → Lists
+with_active active rows l = record l { active = active; rows = rows }
+
+planned-kept : (l : Lists) (active : List PrimRow) (rows : ℕ) (job : Option JobRow) → IsPlannedIf l job → IsPlannedIf (with_active active rows l) job
+planned-kept l active rows None planned = tt
+planned-kept l active rows (Some row) planned = record {
+  frozen = planned.frozen;
+  index = planned.index;
+  pages = planned.pages;
+  from = planned.from;
+  to = planned.to;
+  free = planned.free;
+  slot = planned.slot;
+  closed = planned.closed;
+  room = planned.room;
+  written = planned.written;
+}
+
+-- a row that is laid
+pub laid-IsLists : (l : Lists) (row : PrimRow) (active : List PrimRow) (rows : ℕ) → active ≡ with_entry prim_reading row l.active → IsStored prim_layout row → IsLists l
+    → IsLists (with_active active rows l)
+laid-IsLists l row active rows is stored lists = record {
+  active_ascends = subst (λ es. Ascends prim_reading es) (sym is) (Ascends-with_entry prim_reading prim_key_order row l.active lists.active_ascends);
+  active_stored = subst (All (IsStored prim_layout)) (sym is) (All-with_entry prim_reading prim_key_order (IsStored prim_layout) row l.active stored lists.active_stored);
+  frozen_ascends = lists.frozen_ascends;
+  frozen_stored = lists.frozen_stored;
+  is_cut = lists.is_cut;
+  few = lists.few;
+  slots = lists.slots;
+  least = lists.least;
+  most = lists.most;
+  space = lists.space;
+  reserved = lists.reserved;
+  planned = planned-kept l active rows l.job lists.planned;
+}
+
+-- a component that is installed
+installed-IsLists : (l : Lists) (row : JobRow) (lists : IsLists l) (planned : IsPlanned l row) → l.job ≡ Some row → l.cut < LSN_LIMIT → IsLists (installed row l)
+installed-IsLists l row lists planned is below = record {
+  active_ascends = lists.active_ascends;
+  active_stored = lists.active_stored;
+  frozen_ascends = λ i j d h k. absurd (omega arith);
+  frozen_stored = λ k d h. absurd (omega arith);
+  is_cut = refl;
+  few = let room = planned.room in omega arith;
+  slots =
+      All-cons (IsOpenSlot l.space.pages) (row.plan.slot, described (job_of l row)) (open_of l)
+      (record { number = planned.slot; sound = planned-IsSound l row lists planned 0 below }) lists.slots;
+  least = lists.least;
+  most = lists.most;
+  space = lists.space;
+  reserved = λ page. lists.reserved page ∙ ap (λ job. is_reserved (job_extents job ++ extents_of (open_of l)) page) is;
+  planned = tt;
+}
+
+-- the slot of a job, of these numbers
+abbrev pub slot_with : Lists → JobRow → (placed count : ℕ) → Slot
+slot_with l row placed count = record {
+  index = PRIMARY;
+  first = row.plan.extent.first;
+  pages = row.plan.extent.pages;
+  first_lsn = placed + 1;
+  last_lsn = l.cut;
+  main_rows = count;
+  second_rows = 0;
+  second_at = 0;
+  filter_at = 0;
+  filter_bits = 0;
+  table_rows = l.cut_rows;
+}
+
+-- the same as the code has it
+pub installed-as : (l : Lists) (row : JobRow) (components : List Numbered) (placed count : ℕ) → IsLists l → l.job ≡ Some row → l.cut < LSN_LIMIT
+    → placed ≡ placed_up_to l.components → count ≡ length (frozen_rows l.frozen)
+    → components ≡ (row.plan.slot, slot_with l row placed count) ∷ l.components → IsLists (record (installed row l) { components = components })
+installed-as l row components placed count lists is below from rows to =
+    let same : components ≡ (row.plan.slot, described (job_of l row)) ∷ l.components =
+    to ∙ (λ i. (row.plan.slot, slot_with l row (from i) (rows i)) ∷ l.components) in
+    subst (λ (all : List Numbered). IsLists (record (installed row l) { components = all })) (sym same)
+    (installed-IsLists l row lists (job-IsPlanned l row lists is) is below)
+
+-- the lists of a store that is opened
+pub opened-IsLists : (components ignored : List Numbered) (space : Space) → length components ≤ MOST_LIVE → All (IsOpenSlot space.pages) (components ++ ignored)
+    → LEAST_PAGES ≤ space.pages → space.pages ≤ MOST_PAGES → IsSpace space
+    → ((page : ℕ) → is_reserved space.reserved page ≡ is_reserved (extents_of (components ++ ignored)) page)
+    → IsLists (opened components ignored space)
+opened-IsLists components ignored space few slots least most is reserved = record {
+  active_ascends = λ i j d h k. absurd (omega arith);
+  active_stored = λ k d h. absurd (omega arith);
+  frozen_ascends = λ i j d h k. absurd (omega arith);
+  frozen_stored = λ k d h. absurd (omega arith);
+  is_cut = refl;
+  few = few;
+  slots = slots;
+  least = least;
+  most = most;
+  space = is;
+  reserved = reserved;
+  planned = tt;
+}

@@ -1,0 +1,6 @@
+mod Apart
+mod Begun
+mod Keeping
+mod Lent
+mod Memory
+mod Taking

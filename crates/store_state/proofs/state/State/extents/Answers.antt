@@ -1,0 +1,18 @@
+use Rattle.std.proofs.Common.{ℕ, ◌≤◌, All, subst}
+use Rattle.primary_ix.specs.Components.{AreAllLent}
+use Rattle.space_map.specs.Space.{end_of, is_reserved}
+use Rattle.store_state.specs.Lists.{Lists, trees_of, extents_of, IsOpenSlot}
+use Rattle.store_state.proofs.Lent.{All-front, all_lent, on_device}
+use Rattle.store_state.proofs.state.State.extents.Goals as goal
+
+pub returns-clause-lent : goal.returns-clause-lent
+returns-clause-lent c =
+    let slots = c.self.invariant.slots in
+    subst (λ (v : Lists × ℕ). AreAllLent (is_reserved (extents_of v.0.components)) (trees_of v.0.components)) c.self.view_is
+    (all_lent c.self.inside.space.pages _ c.self.inside.components (All-front (IsOpenSlot c.self.inside.space.pages) c.self.inside.components c.self.inside.ignored.items slots) (λ page h. h))
+
+pub returns-clause-on_device : goal.returns-clause-on_device
+returns-clause-on_device c =
+    let slots = c.self.invariant.slots in
+    subst (λ (v : Lists × ℕ). All (λ e. end_of e ≤ v.0.space.pages) (extents_of v.0.components)) c.self.view_is
+    (on_device c.self.inside.space.pages c.self.inside.components (All-front (IsOpenSlot c.self.inside.space.pages) c.self.inside.components c.self.inside.ignored.items slots))
