@@ -1,0 +1,38 @@
+-- The components lie behind the log.
+use Rattle.std.proofs.Common.{◌≡◌, ◌⊎◌, inl, inr, ℕ, suc, ◌≤◌, List, [], ◌∷◌, All, Option, Some, arith}
+use Rattle.std.proofs.lemmas.Bool.Decides.{nat_tests}
+use Rattle.std.specs.Prelude.{IsTrue}
+use Rattle.dev_model.specs.Story.{Story, IsOutside}
+use Rattle.dev_model.specs.Moments.{WritesWithin}
+use Rattle.space_map.specs.Space.{is_in}
+use Rattle.table_model.specs.Table.{Table}
+use Rattle.wal_log.specs.declared.places.TheConstants.{LOG_BYTES}
+use Rattle.image_model.specs.declared.places.TheConstants.{LOG_START}
+use Rattle.comp_dir.specs.Directory.{Numbered}
+use Rattle.comp_dir.specs.declared.places.TheConstants.{FIRST_DATA_PAGE}
+use Rattle.device_pages.specs.Lending.{is_lent, IsLentPlace}
+use Rattle.store_state.specs.Lists.{Lists, IsLists, IsOpenSlot, extent_of, extents_of}
+use Rattle.kept_state.specs.Reading.{IsLegible}
+use Rattle.kept_state.specs.Laws.ReadingPages.{one_or_other, components-open}
+use Rattle.kept_state.specs.Laws.ReadingStays.{legible-within}
+
+behind : (pages : ℕ) (comps : List Numbered) → All (IsOpenSlot pages) comps → (page : ℕ) → IsTrue (is_lent (extents_of comps) page) → FIRST_DATA_PAGE ≤ page
+behind pages [] all page lent = cc
+behind pages (e ∷ comps) all page lent =
+    by_side (one_or_other (extent_of e.1) (extents_of comps) page lent) (behind pages comps (λ k d lt. all (suc k) d (omega (arith, lt))) page)
+  where
+    by_side : IsTrue (is_in page (extent_of e.1)) ⊎ IsTrue (is_lent (extents_of comps) page) → (IsTrue (is_lent (extents_of comps) page) → FIRST_DATA_PAGE ≤ page) → FIRST_DATA_PAGE ≤ page
+    by_side (inl here) rest =
+        let low : e.1.first ≤ page = grind (arith, nat_tests) in
+        let first : FIRST_DATA_PAGE ≤ e.1.first = (all 0 e (omega arith)).sound.extent.from in
+        omega (arith, low, first)
+    by_side (inr there) rest = rest there
+
+outside-log : (l : Lists) → IsLists l → (i : ℕ) → IsLentPlace (extents_of l.components) i → IsOutside LOG_START LOG_BYTES i
+outside-log l lists i place =
+    let page : FIRST_DATA_PAGE ≤ place.page = behind l.space.pages l.components (components-open l lists) place.page place.lent in
+    inr (omega (arith, page, place.from))
+
+-- calls that write in the log alone leave the store legible
+pub legible-logged : (table : Table) (l : Lists) (s t : Story) (now : Option Story) → IsLists l → IsLegible table l s → WritesWithin LOG_START LOG_BYTES s now → now ≡ Some t → IsLegible table l t
+legible-logged table l s t now lists legible within told = legible-within table l s t LOG_START LOG_BYTES now lists legible within told (outside-log l lists)

@@ -1,0 +1,29 @@
+-- The store after a job was begun.
+use Rattle.std.proofs.Common.{◌≡◌, ℕ, arith}
+use Rattle.dev_model.specs.Story.{Story}
+use Rattle.table_model.specs.Table.{Table}
+use Rattle.wal_log.specs.declared.log.Log.{Log}
+use Rattle.store_state.specs.declared.jobs.JobRow.{JobRow}
+use Rattle.store_state.specs.Lists.{Lists}
+use Rattle.store_state.specs.Steps.{begun}
+use Rattle.kept_state.specs.Keeping.{IsKept}
+use Rattle.kept_state.specs.Reading.{IsLegible}
+
+pub kept-begun : (pages : ℕ) (log : Log) (table : Table) (l : Lists) (s : Story) (row : JobRow) → IsKept pages log table l s → row.written ≡ 0 → IsKept pages log table (begun row l) s
+kept-begun pages log table l s row kept none = record {
+  rests = kept.rests;
+  components = kept.components;
+  slots = kept.slots;
+  frozen_writes = kept.frozen_writes;
+  active_writes = kept.active_writes;
+  writes = kept.writes;
+  frozen_is = kept.frozen_is;
+  active_is = kept.active_is;
+  active_count = kept.active_count;
+  rows_are = kept.rows_are;
+  cut_rows_are = kept.cut_rows_are;
+  under_way = record { pages = λ n lt. absurd (omega (arith, lt, none)); readable = λ page i lt on. absurd (omega (arith, lt, none)) };
+}
+
+pub legible-begun : (table : Table) (l : Lists) (s : Story) (row : JobRow) → IsLegible table l s → IsLegible table (begun row l) s
+legible-begun table l s row legible = record { disk = legible.disk; shown = legible.shown; fits = legible.fits }

@@ -1,0 +1,200 @@
+-- The store after the component of its job was installed, or wasn't.
+use Rattle.std.proofs.Common.{◌≡◌, ◌≢◌, ◌⊎◌, inl, inr, ⊎_elim, ℕ, zero, suc, ◌+◌, ◌*◌, ◌<◌, ◌≤◌, List, [], ◌∷◌, ◌++◌, map, length, get_or, All, Option, Some, None, Contains, ◌↔◌, refl, sym, ◌∙◌, ap, subst, arith}
+use Rattle.std.proofs.lemmas.List.Elements.{All-head, All-tail, Contains-append_left, Contains-append_right, Contains-append_cases}
+use Rattle.std.proofs.lemmas.Option.{none-some}
+use Rattle.std.specs.Prelude.{OnErr, Result, Ok, Err}
+use Rattle.dev_model.specs.Story.{Story, bytes_of}
+use Rattle.dev_model.specs.Moments.{WritesWithin}
+use Rattle.table_model.specs.Table.{Table, rows_of}
+use Rattle.wal_log.specs.Later.{later}
+use Rattle.wal_log.specs.Rules.{records_of}
+use Rattle.wal_log.specs.Segments.{Segments, segments_of}
+use Rattle.wal_log.specs.declared.log.Log.{Log}
+use Rattle.image_model.specs.declared.places.TheConstants.{LOG_START}
+use Rattle.image_model.specs.Recovered.{replayed}
+use Rattle.comp_dir.specs.Adding.{HasOneMore, MayBeAdded}
+use Rattle.comp_dir.specs.Directory.{Directory, Numbered, directory_of, open_slots, slot_body}
+use Rattle.comp_dir.specs.Laws.Adding.{open-added}
+use Rattle.comp_dir.specs.Laws.Agreeing.{directory-at, slot_at-open}
+use Rattle.comp_dir.specs.Laws.Spelled.{slot-back}
+use Rattle.comp_dir.specs.Places.{slot_start}
+use Rattle.comp_dir.specs.Rules.{IsSound}
+use Rattle.comp_dir.specs.Slots.{HasRanges, slot_bytes, slot_of}
+use Rattle.comp_dir.specs.State.{IsClosed, with_slot}
+use Rattle.comp_dir.specs.declared.places.TheConstants.{LSN_LIMIT}
+use Rattle.comp_dir.specs.declared.slots.Slot.{Slot}
+use Rattle.primary_ix.specs.declared.rows.PrimRow.{PrimRow}
+use Rattle.build_job.specs.Jobs.{Job, IsJob, IsPlaceable, described, steps_left}
+use Rattle.component_image.specs.Components.{IsInExtent, IsInExtents}
+use Rattle.component_image.specs.Content.{Count}
+use Rattle.component_image.specs.Laid.{table_of}
+use Rattle.component_image.specs.Recovered.{primary_of}
+use Rattle.component_image.specs.Resting.{MayStand, Rests}
+use Rattle.store_steps.specs.Steps.{IsWritten}
+use Rattle.store_state.specs.declared.jobs.JobRow.{JobRow}
+use Rattle.store_state.specs.Lists.{Lists, IsCut, IsLists, IsJobOf, IsOpenSlot, IsPlanned, IsPlannedIf, open_of, placed_up_to, job_of}
+use Rattle.store_state.specs.Steps.{installed}
+use Rattle.kept_state.specs.Keeping.{IsKept, IsNumbered, IsUnderWay, IsUnderWayIf, IsOnPage}
+use Rattle.kept_state.specs.Reading.{IsLegible}
+use Rattle.kept_state.specs.Laws.Installing.{active-later, may-be-added, may-stand}
+use Rattle.kept_state.specs.Laws.ReadingPages.{components-open, lent-inside}
+use Rattle.kept_state.specs.Laws.ReadingStays.{legible-within}
+
+-- what holds anyway holds after a failure
+pub after-failure : {X E : Type 0} (r : Result X E) (P : Type 0) → P → OnErr r P
+after-failure (Ok x) P holds = tt
+after-failure (Err e) P holds = holds
+
+-- one element more at the head, or somewhere
+head-or : {X : Type 0} (x : X) (some others : List X) (e : X) → (Contains some e → Contains others e) → Contains (x ∷ some) e → Contains (x ∷ others) e
+head-or {X} x some others e to h =
+    ⊎_elim (λ here. Contains-append_left (x ∷ []) others e here) (λ there. Contains-append_right (x ∷ []) others e (to there)) (Contains-append_cases (x ∷ []) some e h)
+
+to-head : {X : Type 0} (x : X) (before after : List X) (e : X) → Contains (before ++ x ∷ after) e → Contains (x ∷ before ++ after) e
+to-head {X} x before after e h =
+    ⊎_elim
+    (λ there. Contains-append_right (x ∷ []) (before ++ after) e (Contains-append_left before after e there))
+    (λ behind. head-or x after (before ++ after) e (λ there. Contains-append_right before after e there) behind)
+    (Contains-append_cases before (x ∷ after) e h)
+
+from-head : {X : Type 0} (x : X) (before after : List X) (e : X) → Contains (x ∷ before ++ after) e → Contains (before ++ x ∷ after) e
+from-head {X} x before after e h =
+    ⊎_elim
+    (λ here. Contains-append_right before (x ∷ after) e (Contains-append_left (x ∷ []) after e here))
+    (λ there. ⊎_elim (λ front. Contains-append_left before (x ∷ after) e front) (λ back. Contains-append_right before (x ∷ after) e (Contains-append_right (x ∷ []) after e back)) (Contains-append_cases before after e there))
+    (Contains-append_cases (x ∷ []) (before ++ after) e h)
+
+contains-more : {X : Type 0} (x : X) (old new : List X) → HasOneMore x old new → (e : X) → Contains new e ↔ Contains (x ∷ old) e
+contains-more {X} x old new more e = (
+  λ h. subst (λ (xs : List X). Contains (x ∷ xs) e) (sym more.was) (to-head x more.before more.after e (subst (λ (xs : List X). Contains xs e) more.is h)),
+  λ h. subst (λ (xs : List X). Contains xs e) (sym more.is) (from-head x more.before more.after e (subst (λ (xs : List X). Contains (x ∷ xs) e) more.was h)),
+)
+
+-- a place of an extent is on one of its pages
+on-page : (first pages i : ℕ) → first * 4096 ≤ i → i < (first + pages) * 4096 → (n : ℕ) × (n < pages) × IsOnPage (first + n) i
+on-page first zero i low high = absurd (omega (arith, low, high))
+on-page first (suc pages) i low high =
+    by_last last (λ before. on-page first pages i low before)
+  where
+    last : (i < (first + pages) * 4096) ⊎ ((first + pages) * 4096 ≤ i)
+    last = grind arith
+
+    by_last : (i < (first + pages) * 4096) ⊎ ((first + pages) * 4096 ≤ i) → (i < (first + pages) * 4096 → (n : ℕ) × (n < pages) × IsOnPage (first + n) i) → (n : ℕ) × (n < suc pages) × IsOnPage (first + n) i
+    by_last (inl before) rest = let found : (n : ℕ) × (n < pages) × IsOnPage (first + n) i = rest before in (found.0, omega (arith, found.1), found.2)
+    by_last (inr behind) rest = (pages, omega arith, record { from = behind; to = omega (arith, high) })
+
+-- components stand behind the log
+behind-log : (pages : ℕ) (comps : List Numbered) (i : ℕ) → All (IsOpenSlot pages) comps → IsInExtents (map (λ e. e.1) comps) i → 1085440 ≤ i
+behind-log pages [] i all inside = absurd inside
+behind-log pages (e ∷ comps) i all (inl here) = omega (arith, (All-head (IsOpenSlot pages) e comps all).sound.extent.from, here.from)
+behind-log pages (e ∷ comps) i all (inr there) = behind-log pages comps i (All-tail (IsOpenSlot pages) e comps all) there
+
+-- the newest component says how many rows the table has with it
+newest-counts : (s : Slot) (slots others : List Slot) (lists : List (List PrimRow)) → slots ≡ s ∷ others → Count slots lists → s.table_rows ≡ length (rows_of (replayed (table_of lists) []))
+newest-counts s slots others lists are counted = by_first lists (subst (λ (xs : List Slot). Count xs lists) are counted)
+  where
+    by_first : (lists : List (List PrimRow)) → Count (s ∷ others) lists → s.table_rows ≡ length (rows_of (replayed (table_of lists) []))
+    by_first [] counted = absurd counted
+    by_first (rows ∷ lists) counted = counted.0
+
+-- the job that was begun, whose pages are written, and its slot
+module _ (l : Lists) (lists : IsLists l) (owner : ℕ) (job : Job) (of : IsJobOf l owner job) (rules : IsJob job) (done : steps_left job ≡ 0) (n : ℕ) (slot : Slot) (n_is : n ≡ job.plan.slot) (slot_is : slot ≡ described job) where
+  planned : IsPlanned l of.row
+  planned = subst (IsPlannedIf l) of.is lists.planned
+
+  number : n ≡ of.row.plan.slot
+  number = n_is ∙ ap (λ (j : Job). j.plan.slot) of.same
+
+  body : slot ≡ described (job_of l of.row)
+  body = slot_is ∙ ap described of.same
+
+  none-left : steps_left (job_of l of.row) ≡ 0
+  none-left = subst (λ (j : Job). steps_left j ≡ 0) of.same done
+
+  own-rules : IsJob (job_of l of.row)
+  own-rules = subst IsJob of.same rules
+
+  -- calls on the slot leave the store legible
+  pub legible-apart : (table : Table) (s t : Story) (now : Option Story) → WritesWithin (slot_start n) 64 s now → now ≡ Some t → IsLegible table l s → IsLegible table l t
+  legible-apart table s t now within told legible =
+      legible-within table l s t (slot_start n) 64 now lists legible within told
+      (λ i place. inr (omega (arith, number, planned.slot, behind-log l.space.pages l.components i (components-open l lists) (lent-inside l.components i place))))
+
+  module _ (pages : ℕ) (log : Log) (table : Table) (s : Story) (kept : IsKept pages log table l s) (numbered : IsNumbered log l) (on_device : l.space.pages ≤ pages) (below : l.cut < LSN_LIMIT)
+      (is_sound : IsPlaceable pages job → IsSound pages 0 slot) (ranges : HasRanges slot) where
+    ordered : placed_up_to l.components + 1 ≤ l.cut
+    ordered = by_frozen l.frozen planned.frozen lists.is_cut
+      where
+        by_frozen : (frozen : Option (List PrimRow)) → frozen ≢ None → IsCut frozen (placed_up_to l.components) l.cut → placed_up_to l.components + 1 ≤ l.cut
+        by_frozen None some cut = absurd (some refl)
+        by_frozen (Some rows) some cut = omega (arith, cut)
+
+    placeable : IsPlaceable pages job
+    placeable = subst (IsPlaceable pages) (sym of.same)
+        (record { from = planned.from; to = omega (arith, planned.to, on_device); some = omega arith; ordered = ordered; below = below })
+
+    sound : IsSound pages 0 (described (job_of l of.row))
+    sound = subst (IsSound pages 0) body (is_sound placeable)
+
+    back : slot_of (slot_bytes (described (job_of l of.row))) ≡ described (job_of l of.row)
+    back = subst (λ (t : Slot). slot_of (slot_bytes t) ≡ t) body (slot-back slot ranges)
+
+    may-be : MayBeAdded pages 0 of.row.plan.slot (described (job_of l of.row)) (directory_of (bytes_of s))
+    may-be = may-be-added pages log table l s of.row kept lists numbered of.is own-rules none-left sound back
+
+    pub may-stand-there : MayStand pages s n slot kept.frozen_writes kept.rests.recovers.lists
+    may-stand-there =
+        subst (λ (m : ℕ). MayStand pages s m slot kept.frozen_writes kept.rests.recovers.lists) (sym number)
+        (subst (λ (t : Slot). MayStand pages s of.row.plan.slot t kept.frozen_writes kept.rests.recovers.lists) (sym body)
+        (may-stand pages log table l s of.row kept lists numbered of.is own-rules none-left sound back))
+
+    -- its gate is closed
+    pub closed-there : IsClosed n s
+    closed-there is =
+        none-some (slot_body n (bytes_of s))
+        (sym may-be.closed ∙ ap (λ (m : ℕ). get_or (directory_of (bytes_of s)) m None) (sym number) ∙ directory-at n (bytes_of s) (omega (arith, number, planned.slot)) ∙ slot_at-open n (bytes_of s) is)
+
+    under_way : IsUnderWay l of.row s
+    under_way = subst (λ (j : Option JobRow). IsUnderWayIf l j s) of.is kept.under_way
+
+    -- and its pages are written
+    pub written-there : IsWritten slot s
+    written-there i inside =
+        let here : IsInExtent (described (job_of l of.row)) i = subst (λ (t : Slot). IsInExtent t i) body inside in
+        let found : (k : ℕ) × (k < of.row.plan.extent.pages) × IsOnPage (of.row.plan.extent.first + k) i = on-page of.row.plan.extent.first of.row.plan.extent.pages i here.from here.to in
+        under_way.readable found.0 i (omega (arith, found.1, none-left)) found.2
+
+    -- so the store keeps its table
+    module _ (t : Story) (rests : Rests pages log table t) (same_segments : segments_of LOG_START (bytes_of t) ≡ segments_of LOG_START (bytes_of s))
+        (directory : directory_of (bytes_of t) ≡ with_slot n slot (directory_of (bytes_of s))) (placed : primary_of (bytes_of t) ≡ slot ∷ primary_of (bytes_of s)) where
+      same_directory : directory_of (bytes_of t) ≡ with_slot of.row.plan.slot (described (job_of l of.row)) (directory_of (bytes_of s))
+      same_directory = directory ∙ (λ j. with_slot (number j) (body j) (directory_of (bytes_of s)))
+
+      components_are : primary_of (bytes_of t) ≡ described (job_of l of.row) ∷ map (λ e. e.1) l.components
+      components_are = placed ∙ (λ j. body j ∷ kept.components j)
+
+      slots_are : (e : Numbered) → Contains (open_slots (directory_of (bytes_of t))) e ↔ Contains ((of.row.plan.slot, described (job_of l of.row)) ∷ open_of l) e
+      slots_are e =
+          let more : Contains (open_slots (directory_of (bytes_of t))) e ↔ Contains ((of.row.plan.slot, described (job_of l of.row)) ∷ open_slots (directory_of (bytes_of s))) e =
+          contains-more (of.row.plan.slot, described (job_of l of.row)) (open_slots (directory_of (bytes_of s))) (open_slots (directory_of (bytes_of t)))
+          (subst (λ (d : Directory). HasOneMore (of.row.plan.slot, described (job_of l of.row)) (open_slots (directory_of (bytes_of s))) (open_slots d)) (sym same_directory)
+          (open-added pages 0 of.row.plan.slot (described (job_of l of.row)) (directory_of (bytes_of s)) may-be)) e in (
+            λ h. head-or (of.row.plan.slot, described (job_of l of.row)) (open_slots (directory_of (bytes_of s))) (open_of l) e (λ there. (kept.slots e).0 there) (more.0 h),
+            λ h. more.1 (head-or (of.row.plan.slot, described (job_of l of.row)) (open_of l) (open_slots (directory_of (bytes_of s))) e (λ there. (kept.slots e).1 there) h),
+          )
+
+      pub kept-installed : IsKept pages log table (installed of.row l) t
+      kept-installed = record {
+        rests = rests;
+        components = components_are;
+        slots = slots_are;
+        frozen_writes = [];
+        active_writes = kept.active_writes;
+        writes = ap (λ (segments : Segments). later l.cut (records_of segments)) same_segments ∙ active-later pages log table l s of.row kept lists numbered of.is own-rules none-left sound back;
+        frozen_is = refl;
+        active_is = kept.active_is;
+        active_count = kept.active_count;
+        rows_are = kept.rows_are;
+        cut_rows_are = newest-counts (described (job_of l of.row)) (primary_of (bytes_of t)) (map (λ e. e.1) l.components) rests.recovers.lists components_are rests.recovers.counted;
+        under_way = tt;
+      }

@@ -1,0 +1,12 @@
+mod Apart
+mod Begun
+mod Counting
+mod Few
+mod Found
+mod Froze
+mod Installed
+mod Lent
+mod Logged
+mod Stays
+mod Went
+mod Written

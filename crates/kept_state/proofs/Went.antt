@@ -1,0 +1,74 @@
+-- How readers of the components of a store went.
+use Rattle.std.proofs.Common.{◌≡◌, ℕ, List, [], ◌∷◌, All, Option, Some, Result, Ok, Err, refl, sym, ◌∙◌, ap, subst}
+use Rattle.std.specs.Prelude.{IsTrue}
+use Rattle.std.proofs.lemmas.List.Elements.{All-nil}
+use Rattle.space_map.specs.declared.space.Extent.{Extent}
+use Rattle.dev_model.specs.Story.{Story, clock_of, WhereTold}
+use Rattle.dev_model.specs.DeviceCalls.{ok_calls}
+use Rattle.dev_model.specs.Laws.Reads.{LeavesOnly-reads}
+use Rattle.dev_model.specs.Moments.{ReadsWithin}
+use Rattle.page_codec.specs.declared.faults.PageFault.{PageFault}
+use Rattle.page_codec.specs.declared.faults.PageFault.TheVariants.{Failed, Damaged, OutOfMemory}
+use Rattle.tree_shape.specs.Asked.{Went, reads_of, given_but_last}
+use Rattle.device_pages.specs.Asked.{Seen, Asked, seen, calls_of, pages_of}
+use Rattle.device_pages.specs.Lending.{is_lent}
+use Rattle.device_pages.specs.Laws.Asked.{asked-none, story-asked, ok_calls-asked, pages_of-given, ReadsWithin-asked}
+use Rattle.store_state.specs.Lists.{Lists, IsLists, extents_of}
+use Rattle.kept_state.specs.Reading.{HasRead, IsOnlyRead, IsPageIn}
+use Rattle.kept_state.specs.Laws.ReadingStays.{legible-reads, kept-reads, images-reads}
+
+pages_of-but_last : (pages : List ℕ) → pages_of (given_but_last pages) ≡ pages
+pages_of-but_last [] = refl
+pages_of-but_last (page ∷ []) = refl
+pages_of-but_last (page ∷ next ∷ more) = ap (λ (rest : List ℕ). page ∷ rest) (pages_of-but_last (next ∷ more))
+
+pages_of-reads : {X : Type 0} (result : Result X PageFault) (pages : List ℕ) → pages_of (reads_of result pages) ≡ pages
+pages_of-reads (Ok x) pages = pages_of-given pages
+pages_of-reads (Err Failed) pages = pages_of-but_last pages
+pages_of-reads (Err (Damaged page)) pages = pages_of-given pages
+pages_of-reads (Err OutOfMemory) pages = pages_of-given pages
+
+module _ (l : Lists) where
+  -- with the calls that it made
+  has-read : {X : Type 0} (old new : Seen) (result : Result X PageFault) (pages : List ℕ) → ((s : Story) → old.story ≡ Some s → old.clock ≡ clock_of s)
+      → Went (is_lent (extents_of l.components)) (λ reads. Asked reads old new) result pages → HasRead l old new result pages
+  has-read old new result pages counted went = record {
+    went = went;
+    made = λ s told. record {
+      calls = calls_of old.clock (reads_of result pages);
+      told = story-asked (reads_of result pages) old new s went.asked_for told;
+      made = (λ j. ok_calls (clock_of s) (calls_of (counted s told j) (reads_of result pages))) ∙ ok_calls-asked (clock_of s) (reads_of result pages);
+    };
+  }
+
+  -- what it leaves
+  pub only-read : {X : Type 0} (old new : Seen) (result : Result X PageFault) (pages : List ℕ) → IsLists l → HasRead l old new result pages → WhereTold old.story (λ s. IsOnlyRead old.pages l s new.story)
+  only-read old new result pages is read s told =
+      let lent : All (λ page. IsTrue (is_lent (extents_of l.components) page)) (pages_of (reads_of result pages)) =
+      subst (All (λ page. IsTrue (is_lent (extents_of l.components) page))) (sym (pages_of-reads result pages)) read.went.are_lent in
+      let run : ReadsWithin (IsPageIn l) s new.story =
+      ReadsWithin-asked (IsPageIn l) (reads_of result pages) old new s read.went.asked_for told (λ k d lt. record { page = _; lent = lent k d lt; place = refl; size = refl }) in
+      record {
+        reads = run;
+        images = LeavesOnly-reads (IsPageIn l) s new.story run;
+        legible = λ table legible t now. legible-reads (IsPageIn l) s new.story run t now table l is legible;
+        kept = λ log table kept t now. kept-reads (IsPageIn l) s new.story run t now old.pages log table l kept;
+        any_moment = λ log table kept. images-reads (IsPageIn l) s new.story run old.pages log table kept.rests;
+      }
+
+  module _ {D : Type 0} (pages clock : D → ℕ) (story : D → Option Story) (counted : (device : D) (s : Story) → story device ≡ Some s → clock device ≡ clock_of s) where
+    -- no page was asked for
+    pub read-none : {X : Type 0} (device : D) (x : X) → HasRead l (seen pages clock story device) (seen pages clock story device) (Ok x) []
+    read-none device x =
+        has-read (seen pages clock story device) (seen pages clock story device) (Ok x) [] (counted device)
+        (record { asked_for = asked-none (seen pages clock story device); are_lent = All-nil (λ page. IsTrue (is_lent (extents_of l.components) page)); stops = tt })
+
+    -- the pages of the components were lent meanwhile
+    pub read-lent : {X : Type 0} (extents : List Extent) (old first next new : D) (result : Result X PageFault) (asked : List ℕ) → first ≡ old → extents ≡ extents_of l.components → next ≡ new
+        → Went (is_lent extents) (λ reads. Asked reads (seen pages clock story first) (seen pages clock story next)) result asked
+        → HasRead l (seen pages clock story old) (seen pages clock story new) result asked
+    read-lent extents old first next new result asked begins lends ends went =
+        has-read (seen pages clock story old) (seen pages clock story new) result asked (counted old)
+        (subst (λ (d : D). Went (is_lent (extents_of l.components)) (λ reads. Asked reads (seen pages clock story old) (seen pages clock story d)) result asked) ends
+        (subst (λ (d : D). Went (is_lent (extents_of l.components)) (λ reads. Asked reads (seen pages clock story d) (seen pages clock story next)) result asked) begins
+        (subst (λ (es : List Extent). Went (is_lent es) (λ reads. Asked reads (seen pages clock story first) (seen pages clock story next)) result asked) lends went)))

@@ -1,0 +1,5 @@
+use Rattle.kept_state.specs.Laws.ReadingStays.{kept-legible}
+use Rattle.kept_state.proofs.legible.kept_is_legible.Goals as goal
+
+pub returns : goal.returns
+returns c = kept-legible

@@ -1,0 +1,116 @@
+// The pages of a flush, one after the other, and the install of the component that they make.
+ghost use Rattle.std.specs.Prelude.{◌≡◌, ◌+◌, ◌*◌, ◌<◌, ◌≤◌, ℕ, List, [], ◌∷◌, length, Some, OnErr, OnOk};
+ghost use Rattle.dev_model.specs.Counts.{HasCause};
+ghost use Rattle.dev_model.specs.Story.{WhereTold, Did, Ticks, Write};
+ghost use Rattle.dev_model.specs.Moments.{LeavesOnly, WritesWithin};
+ghost use Rattle.table_model.specs.Table.{Table};
+ghost use Rattle.wal_log.specs.declared.log.Log.{Log as LogModel};
+ghost use Rattle.comp_dir.specs.Places.{slot_start};
+ghost use Rattle.comp_dir.specs.State.{install_calls};
+ghost use Rattle.build_job.specs.Jobs.{described, steps_left};
+ghost use Rattle.build_job.specs.Written.{IsPageOf};
+ghost use Rattle.component_image.specs.Recovered.{Recovers};
+ghost use Rattle.store_state.specs.Lists.{IsLists, IsJobOf};
+ghost use Rattle.store_state.specs.Steps.{installed, one_written};
+ghost use Rattle.store_state.specs.declared.jobs.JobRow.{JobRow};
+ghost use Rattle.kept_state.specs.Keeping.{IsKept, IsNumbered};
+ghost use Rattle.kept_state.specs.Reading.{IsLegible};
+
+use crate::laws::{jobs_have_rules, lists_have_rules};
+use build_job::{BuildJob, JobStep};
+use comp_dir::{LSN_LIMIT, SLOT_BYTES};
+use dev_model::{Device, Failed};
+use page_codec::PAGE_BYTES;
+use store_state::State;
+use store_steps::{install_component, write_page};
+
+/// Writes the page that the job wants next, in one write, and counts it; it isn't synced. The job has a page left, and is the
+/// one that was begun. Where the write fails, lists and job are as before.
+pub fn write_job_page<D: Device>(
+    device: &mut D,
+    state: &mut State,
+    job: &mut BuildJob,
+) -> Result<(), Failed>
+    requires begun { (owner : ℕ) × IsJobOf state.old.0 owner job.old }
+    requires left { 0 < steps_left job.old }
+    requires on_device { state.old.0.space.pages ≤ D.pages device.old }
+
+    ensures did { (bytes : List ℕ) × (length bytes ≡ PAGE_BYTES) × IsPageOf job.old.rows job.old.written bytes
+        × Did (Write ((job.old.plan.extent.first + job.old.written) * PAGE_BYTES) bytes ∷ []) (D.story device.old) (D.story device.new) result }
+    ensures ticks { Ticks 1 (D.clock device.old) (D.clock device.new) result }
+    ensures within { WhereTold (D.story device.old) (λ s. WritesWithin ((job.old.plan.extent.first + job.old.written) * PAGE_BYTES) PAGE_BYTES s (D.story device.new)) }
+
+    // After `Ok` the page is counted, and after a failure it isn't. The job is still the one that was begun.
+    ensures lists { OnOk result (state.new.0 ≡ one_written state.old.0) }
+    ensures next { OnOk result (job.new ≡ record job.old { written = job.old.written + 1 }) }
+    ensures unchanged { OnErr result ((state.new ≡ state.old) × (job.new ≡ job.old)) }
+    ensures begun { (owner : ℕ) → IsJobOf state.old.0 owner job.old → IsJobOf state.new.0 owner job.new }
+    ensures numbered { (log : LogModel) → IsNumbered log state.old.0 → IsNumbered log state.new.0 }
+    ensures room { state.new.1 ≡ state.old.1 }
+    ensures sound { IsLists state.new.0 }
+
+    // No component has the page. So each crash at each moment leaves the table, the store has it still after `Ok`, and where it
+    // could be read it can be read in any case.
+    ensures any_moment { (log : LogModel) (table : Table) → WhereTold (D.story device.old) (λ s. IsKept (D.pages device.old) log table state.old.0 s →
+        LeavesOnly s (D.story device.new) (Recovers (D.pages device.old) table)) }
+    ensures kept { (log : LogModel) (table : Table) → OnOk result (WhereTold (D.story device.old) (λ s. IsKept (D.pages device.old) log table state.old.0 s →
+        WhereTold (D.story device.new) (IsKept (D.pages device.old) log table state.new.0))) }
+    ensures legible { (table : Table) → WhereTold (D.story device.old) (λ s. IsLegible table state.old.0 s → WhereTold (D.story device.new) (IsLegible table state.new.0)) }
+
+    ensures same_pages { D.pages device.new ≡ D.pages device.old }
+    ensures cause { HasCause (D.fault_count device.old) (D.fault_count device.new) result }
+{
+    lists_have_rules(state);
+    let JobStep::Write(page) = job.step() else {
+        unreachable!();
+    };
+    let mut bytes = [0; PAGE_BYTES];
+    job.page(&mut bytes);
+    write_page(device, page, &bytes)?;
+    job.wrote();
+    state.wrote();
+    Ok(())
+}
+
+/// Installs the component of a job whose pages are all written, which is the one that was begun: writes its slot, syncs, opens the
+/// slot's gate and syncs. Then the component stands before the others, in the place of the frozen list. The list's writes have
+/// numbers that a slot may have. It stops at the call that fails, and the lists are then as before.
+pub fn install_job<D: Device>(
+    device: &mut D,
+    state: &mut State,
+    job: &BuildJob,
+) -> Result<(), Failed>
+    requires begun { (owner : ℕ) × IsJobOf state.old.0 owner job.now }
+    requires written { steps_left job.now ≡ 0 }
+    requires below { state.old.0.cut < LSN_LIMIT }
+    requires on_device { state.old.0.space.pages ≤ D.pages device.old }
+
+    ensures did { Did (install_calls job.now.plan.slot (described job.now)) (D.story device.old) (D.story device.new) result }
+    ensures ticks { Ticks 4 (D.clock device.old) (D.clock device.new) result }
+    ensures within { WhereTold (D.story device.old) (λ s. WritesWithin (slot_start job.now.plan.slot) SLOT_BYTES s (D.story device.new)) }
+
+    // After `Ok` the component stands in its slot and the frozen list waits no more; after a failure the lists are as before.
+    ensures lists { OnOk result ((row : JobRow) → state.old.0.job ≡ Some row → state.new.0 ≡ installed row state.old.0) }
+    ensures unchanged { OnErr result (state.new ≡ state.old) }
+    ensures room { state.new.1 ≡ state.old.1 }
+    ensures sound { IsLists state.new.0 }
+
+    // Each crash at each moment leaves the table, with the component or without it, and after `Ok` the store has it still. After a
+    // failure it can be read as before.
+    ensures any_moment { (log : LogModel) (table : Table) → WhereTold (D.story device.old) (λ s. IsNumbered log state.old.0 → IsKept (D.pages device.old) log table state.old.0 s →
+        LeavesOnly s (D.story device.new) (Recovers (D.pages device.old) table)) }
+    ensures kept { (log : LogModel) (table : Table) → OnOk result (WhereTold (D.story device.old) (λ s. IsNumbered log state.old.0 → IsKept (D.pages device.old) log table state.old.0 s →
+        WhereTold (D.story device.new) (IsKept (D.pages device.old) log table state.new.0))) }
+    ensures numbered { (log : LogModel) → IsNumbered log state.old.0 → IsNumbered log state.new.0 }
+    ensures legible { (table : Table) → OnErr result (WhereTold (D.story device.old) (λ s. IsLegible table state.old.0 s → WhereTold (D.story device.new) (IsLegible table state.new.0))) }
+
+    ensures same_pages { D.pages device.new ≡ D.pages device.old }
+    ensures cause { HasCause (D.fault_count device.old) (D.fault_count device.new) result }
+{
+    lists_have_rules(state);
+    jobs_have_rules(job);
+    let slot = job.slot();
+    install_component(device, job.plan().slot, &slot)?;
+    state.install();
+    Ok(())
+}

@@ -1,0 +1,144 @@
+//! The rows of a store: those in memory, and behind them those on the pages of its components.
+
+ghost use Rattle.std.specs.Prelude.{◌≡◌, ◌≢◌, ℕ, ◌≤◌, List, All, ◌⊎◌, OnOk, IfOk, IfErr, IfSome, MatchResult, Ok, Some};
+ghost use Rattle.dev_model.specs.Counts.{Rose};
+ghost use Rattle.dev_model.specs.Story.{WhereTold};
+ghost use Rattle.page_codec.specs.declared.faults.PageFault.TheVariants.{Failed, Damaged, OutOfMemory};
+ghost use Rattle.tree_shape.specs.Asked.{GoesBy};
+ghost use Rattle.device_pages.specs.Asked.{seen};
+ghost use Rattle.device_pages.specs.Lending.{contents_of};
+ghost use Rattle.order_merge.specs.Entries.{Ascends, newest_at};
+ghost use Rattle.order_merge.specs.Views.{lists_of};
+ghost use Rattle.table_model.specs.Table.{Table};
+ghost use Rattle.primary_ix.specs.Rows.{prim_reading};
+ghost use Rattle.primary_ix.specs.Components.{AreShown, AreRoots, IsDamagedIn, IsTestedIn};
+ghost use Rattle.primary_ix.specs.Lookups.{in_memory, view_pages};
+ghost use Rattle.primary_ix.specs.Scans.{scan_pages};
+ghost use Rattle.primary_ix.specs.Wanted.{record_in, record_of, table_row, table_rows};
+ghost use Rattle.primary_ix.specs.declared.rows.PrimRow.{PrimRow as PrimRowModel};
+ghost use Rattle.store_state.specs.Lists.{IsLists, extents_of, trees_of};
+ghost use Rattle.kept_state.specs.Reading.{IsLegible, HasRead, IsOnlyRead};
+
+use dev_model::Device;
+use device_pages::DevicePages;
+use geo_base::Row;
+use page_codec::PageFault;
+use primary_ix::{PrimRow, living_rows, lookup_disk};
+use std::alloc::Global;
+use store_state::State;
+
+// The row of a key in the newest list that has one, anti or not.
+fn find_row<D: Device>(
+    device: &mut D,
+    state: &State,
+    key: u64,
+) -> Result<Option<PrimRow>, PageFault>
+    requires on_device { state.now.0.space.pages ≤ D.pages device.old }
+    ensures lists { IsLists state.now.0 }
+    ensures later { D.fault_count device.old ≤ D.fault_count device.new }
+    ensures failed { IfErr result (λ fault. fault ≡ Failed → Rose (D.fault_count device.old) (D.fault_count device.new)) }
+    ensures needs_no_memory { IfErr result (λ fault. fault ≢ OutOfMemory) }
+    ensures damaged { WhereTold (contents_of (extents_of state.now.0.components) (D.story device.old)) (λ contents.
+        IfErr result (λ fault. (page : ℕ) → fault ≡ Damaged page → IsDamagedIn (trees_of state.now.0.components) contents page)) }
+    ensures found { (disk : List (List PrimRowModel)) → AreShown (contents_of (extents_of state.now.0.components) (D.story device.old)) (trees_of state.now.0.components) disk
+        → MatchResult result (λ found. found ≡ newest_at prim_reading (lists_of state.now.0.active state.now.0.frozen disk) key) (λ fault. fault ≡ Failed) }
+    ensures memory { IfSome (in_memory state.now.0.active state.now.0.frozen key) (λ row. (result ≡ Ok (Some row)) × (device.new ≡ device.old)) }
+    ensures asked { (pages : List ℕ) × HasRead state.now.0 (seen D.pages D.clock D.story device.old) (seen D.pages D.clock D.story device.new) result pages
+        × OnOk result (WhereTold (contents_of (extents_of state.now.0.components) (D.story device.old)) (λ contents. All (IsTestedIn (trees_of state.now.0.components) contents) pages))
+        × ((disk : List (List PrimRowModel)) (roots : List ℕ) → AreShown (contents_of (extents_of state.now.0.components) (D.story device.old)) (trees_of state.now.0.components) disk
+        → AreRoots (trees_of state.now.0.components) roots
+        → GoesBy result pages (view_pages key state.now.0.active state.now.0.frozen (trees_of state.now.0.components) disk roots)) }
+{
+    let components = state.components();
+    if let Some(row) = state.in_memory(key) {
+        return Ok(Some(row));
+    }
+    let mut pages = DevicePages::new(device, state.extents());
+    lookup_disk(&mut pages, components, key)
+}
+
+// The record of the row that was found.
+fn record_of(found: Option<PrimRow>) -> Option<Row>
+    ensures { result ≡ record_of found }
+{
+    match found {
+        Some(row) => row.row(),
+        None => None,
+    }
+}
+
+/// The record of a key: its row in the newest list that has one, unless that row is anti.
+///
+/// Where a list in memory has the key, the device isn't touched. Else the pages are those of a descent in each component, the
+/// newest first, up to the first that has the key, or after a refusal the first few of them. `Failed` where a page is not
+/// given, and `Damaged` where the page that was read last is none for its place, which doesn't come where the pages show the
+/// store's lists. It takes no memory.
+pub fn read_row<D: Device>(
+    device: &mut D,
+    state: &State,
+    key: u64,
+) -> Result<Option<Row>, PageFault>
+    requires on_device { state.now.0.space.pages ≤ D.pages device.old }
+
+    ensures row { (table : Table) → WhereTold (D.story device.old) (λ s. IsLegible table state.now.0 s
+        → MatchResult result (λ row. row ≡ table_row table key) (λ fault. fault ≡ Failed)) }
+    ensures memory { IfSome (in_memory state.now.0.active state.now.0.frozen key) (λ row. (result ≡ Ok (record_in row)) × (device.new ≡ device.old)) }
+    ensures failed { IfErr result (λ fault. fault ≡ Failed → Rose (D.fault_count device.old) (D.fault_count device.new)) }
+    ensures later { D.fault_count device.old ≤ D.fault_count device.new }
+    ensures needs_no_memory { IfErr result (λ fault. fault ≢ OutOfMemory) }
+    ensures damaged { WhereTold (contents_of (extents_of state.now.0.components) (D.story device.old)) (λ contents.
+        IfErr result (λ fault. (page : ℕ) → fault ≡ Damaged page → IsDamagedIn (trees_of state.now.0.components) contents page)) }
+
+    // Which pages were asked for, that each that was given was tested for its place, and which they are where the pages show lists.
+    ensures asked { (pages : List ℕ) × HasRead state.now.0 (seen D.pages D.clock D.story device.old) (seen D.pages D.clock D.story device.new) result pages
+        × OnOk result (WhereTold (contents_of (extents_of state.now.0.components) (D.story device.old)) (λ contents. All (IsTestedIn (trees_of state.now.0.components) contents) pages))
+        × ((disk : List (List PrimRowModel)) (roots : List ℕ) → AreShown (contents_of (extents_of state.now.0.components) (D.story device.old)) (trees_of state.now.0.components) disk
+        → AreRoots (trees_of state.now.0.components) roots
+        → GoesBy result pages (view_pages key state.now.0.active state.now.0.frozen (trees_of state.now.0.components) disk roots)) }
+
+    ensures stays { WhereTold (D.story device.old) (λ s. IsOnlyRead (D.pages device.old) state.now.0 s (D.story device.new)) }
+    ensures same_pages { D.pages device.new ≡ D.pages device.old }
+{
+    match find_row(device, state, key) {
+        Ok(found) => Ok(record_of(found)),
+        Err(fault) => Err(fault),
+    }
+}
+
+/// The rows that live, ascending by key: the newest row of each key, without the anti rows.
+///
+/// Each component is scanned from its root to its last leaf, the newest first. `Failed` where a page is not given, `Damaged`
+/// where the page that was read last is none for its place, which doesn't come where the pages show the store's lists, and
+/// `OutOfMemory` where there is no memory for the lists.
+pub fn read_rows<D: Device>(
+    alloc: Global,
+    device: &mut D,
+    state: &State,
+) -> Result<Vec<PrimRow>, PageFault>
+    requires on_device { state.now.0.space.pages ≤ D.pages device.old }
+
+    ensures rows { (table : Table) → WhereTold (D.story device.old) (λ s. IsLegible table state.now.0 s
+        → MatchResult result (λ rows. rows.items ≡ table_rows table) (λ fault. (fault ≡ Failed) ⊎ (fault ≡ OutOfMemory))) }
+    ensures ascends { IfOk result (λ rows. Ascends prim_reading rows.items) }
+    ensures failed { IfErr result (λ fault. fault ≡ Failed → Rose (D.fault_count device.old) (D.fault_count device.new)) }
+    ensures later { D.fault_count device.old ≤ D.fault_count device.new }
+    ensures damaged { WhereTold (contents_of (extents_of state.now.0.components) (D.story device.old)) (λ contents.
+        IfErr result (λ fault. (page : ℕ) → fault ≡ Damaged page → IsDamagedIn (trees_of state.now.0.components) contents page)) }
+
+    // Which pages were asked for, that each that was given was tested for its place, and which they are where the pages show lists.
+    ensures asked { (pages : List ℕ) × HasRead state.now.0 (seen D.pages D.clock D.story device.old) (seen D.pages D.clock D.story device.new) result pages
+        × OnOk result (WhereTold (contents_of (extents_of state.now.0.components) (D.story device.old)) (λ contents. All (IsTestedIn (trees_of state.now.0.components) contents) pages))
+        × ((disk : List (List PrimRowModel)) (roots : List ℕ) → AreShown (contents_of (extents_of state.now.0.components) (D.story device.old)) (trees_of state.now.0.components) disk
+        → AreRoots (trees_of state.now.0.components) roots
+        → GoesBy result pages (scan_pages (trees_of state.now.0.components) disk roots)) }
+
+    ensures stays { WhereTold (D.story device.old) (λ s. IsOnlyRead (D.pages device.old) state.now.0 s (D.story device.new)) }
+    ensures same_pages { D.pages device.new ≡ D.pages device.old }
+{
+    let components = state.components();
+    let Ok(active) = state.share() else {
+        return Err(PageFault::OutOfMemory);
+    };
+    let mut lent = DevicePages::new(device, state.extents());
+    living_rows(alloc, &mut lent, &active, state.frozen(), components)
+}
