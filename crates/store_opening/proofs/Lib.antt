@@ -1,0 +1,5 @@
+mod InOrder
+mod KeptAgain
+mod OpeningRead
+mod Restoring
+mod SuperblockRead

@@ -1,0 +1,58 @@
+// The first page of a device.
+ghost use Rattle.std.specs.Prelude.{◌≡◌, ◌≤◌, ◌<◌, ◌-◌, slice_index, drop, IfSome, IfNone, IfOk, IfErr};
+ghost use Rattle.std.specs.Bool.{OnTrue, OnFalse};
+ghost use Rattle.dev_model.specs.Counts.{HasCause};
+ghost use Rattle.dev_model.specs.Story.{WhereTold, bytes_of, IsCalmAt};
+ghost use Rattle.dev_model.specs.Moments.{ReadsWithin};
+ghost use Rattle.image_model.specs.Superblock.{superblock_bytes, IsFormatted, declared};
+ghost use Rattle.image_model.specs.Opening.{IsLookedInSuperblock, IsOpeningRange};
+ghost use Rattle.store_opening.specs.Openings.{HasFaulted};
+ghost use Rattle.store_opening.specs.Read.{IsSuperblock, IsSuperblockRefusal};
+
+use crate::opening::OpenFault;
+use dev_model::Device;
+use device_format::superblock_bytes;
+use geo_base::IndexSet;
+use image_model::LOG_PAGES;
+use wal_log::OPEN;
+
+// The gate is open, and these are the bytes behind it.
+fn is_spelled(bytes: &[u8; 16], indexes: IndexSet, pages: u32) -> bool
+    ensures yes { OnTrue result ((slice_index bytes.now 0 ≡ OPEN) × (drop 1 bytes.now ≡ superblock_bytes indexes pages)) }
+    ensures no { OnFalse result (slice_index bytes.now 0 ≡ OPEN → drop 1 bytes.now ≡ superblock_bytes indexes pages → ⊥) }
+{
+    bytes[0] == OPEN && &bytes[1..] == &superblock_bytes(indexes, pages)[..]
+}
+
+// The declared indexes, where these are the bytes of a formatted device.
+fn indexes_of(bytes: &[u8; 16], pages: u32) -> Option<IndexSet>
+    ensures some { IfSome result (λ set. IsSuperblock pages bytes.now × (slice_index bytes.now 2 ≡ set)) }
+    ensures none { IfNone result (IsSuperblock pages bytes.now → ⊥) }
+{
+    match IndexSet::of_bits(bytes[2]) {
+        Some(indexes) if is_spelled(bytes, indexes, pages) => Some(indexes),
+        _ => None,
+    }
+}
+
+/// Reads the superblock: the declared indexes.
+pub(crate) fn read_superblock<D: Device>(device: &mut D) -> Result<IndexSet, OpenFault>
+    requires pages { LOG_PAGES ≤ D.pages device.old }
+    ensures formatted { IfOk result (λ set. WhereTold (D.story device.old) (λ s. IsCalmAt (IsLookedInSuperblock (bytes_of s)) s →
+        IsFormatted (D.pages device.old) (bytes_of s) × (declared (bytes_of s) ≡ set))) }
+    ensures refused { IfErr result (λ fault. WhereTold (D.story device.old) (λ s. IsCalmAt (IsLookedInSuperblock (bytes_of s)) s →
+        IsSuperblockRefusal (D.pages device.old) fault (bytes_of s))) }
+    ensures faulted { IfErr result (HasFaulted (D.fault_count device.old) (D.fault_count device.new)) }
+    ensures later { D.fault_count device.old ≤ D.fault_count device.new }
+    ensures reads { WhereTold (D.story device.old) (λ s. ReadsWithin IsOpeningRange s (D.story device.new)) }
+    ensures same_pages { D.pages device.new ≡ D.pages device.old }
+{
+    let mut bytes = [0; 16];
+    match device.read(0, &mut bytes) {
+        Err(_) => Err(OpenFault::Fault),
+        Ok(()) => match indexes_of(&bytes, device.pages()) {
+            Some(indexes) => Ok(indexes),
+            None => Err(OpenFault::NotFormatted),
+        },
+    }
+}
