@@ -1,0 +1,5 @@
+mod Answering
+mod Found
+mod Regions
+mod WorkEvents
+mod WriteEvents

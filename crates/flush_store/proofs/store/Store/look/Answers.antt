@@ -1,0 +1,12 @@
+use Rattle.std.proofs.Common.{refl, arith}
+use Rattle.flush_store.specs.Stores.{state_of}
+use Rattle.flush_store.proofs.Answering.{looked}
+use Rattle.flush_store.proofs.store.Store.look.Goals as goal
+
+pub overflow_cast-result : goal.overflow_cast-result
+overflow_cast-result g c = omega (arith, c.requires.ready.counted.few)
+
+pub returns : goal.returns
+returns g c = record {
+  event = looked (state_of g.D.Device.pages g.D.Device.clock g.D.Device.fault_count g.D.Device.story c.args.self.now) c.args.owner _ refl c.is_frozen.ensures refl c.placed.ensures c.saturating_sub.ensures;
+}

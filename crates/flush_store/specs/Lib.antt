@@ -1,0 +1,5 @@
+pub mod Begun
+pub mod Refusals
+pub mod Regions
+pub mod Stores
+pub mod Writing

@@ -1,0 +1,67 @@
+// The opening of a store.
+ghost use Rattle.std.specs.Prelude.{◌≡◌, ◌≤◌, IfOk, IfErr};
+ghost use Rattle.dev_model.specs.Story.{WhereTold, bytes_of, IsCalmAt};
+ghost use Rattle.dev_model.specs.Moments.{ReadsWithin};
+ghost use Rattle.image_model.specs.Opening.{IsOpeningRange};
+ghost use Rattle.component_image.specs.Recovered.{IsLookedAt};
+ghost use Rattle.store_opening.specs.Openings.{IsRefusal, HasFaulted};
+ghost use Rattle.flush_machine.specs.Standing.{IsReady, OpensFrom};
+ghost use Rattle.flush_machine.specs.Laws.Opening.{opened_state};
+ghost use Rattle.flush_store.specs.Stores.{state_of, device_of};
+
+use crate::store::Store;
+use dev_model::Device;
+use geo_base::ItemList;
+use space_map::{LEAST_PAGES, MOST_PAGES};
+use std::alloc::Global;
+use store_opening::{OpenFault, OpenedState, open_state};
+
+impl<D: Device> Store<D> {
+    /// Opens the store that is on the device, or gives the device back.
+    ///
+    /// The opening is the moment at which this returns. It reads the superblock, the directory and the log, and nothing else,
+    /// no page of a component either, and writes nothing. The refusals, in this order: `NotFormatted`, `BadSlot` of the lowest
+    /// slot that can't be, and `BadLog` of the first segment in the order of the generations that can't be, exactly where they
+    /// hold of the bytes; `Fault` where a call of the device failed, which ends the opening; `OutOfMemory`.
+    pub fn open(alloc: Global, device: D) -> Result<Store<D>, (D, OpenFault)>
+        requires least { LEAST_PAGES ≤ D.pages device }
+        requires most { D.pages device ≤ MOST_PAGES }
+        ensures stands { IfOk result (λ store. OpensFrom (device_of D.pages D.clock D.fault_count D.story device) (state_of D.pages D.clock D.fault_count D.story store)) }
+        ensures ready { IfOk result (λ store. IsReady (state_of D.pages D.clock D.fault_count D.story store)) }
+        ensures refused { IfErr result (λ refused. WhereTold (D.story device) (λ s. IsCalmAt (IsLookedAt (bytes_of s)) s → IsRefusal (D.pages device) refused.1 (bytes_of s))) }
+        ensures faulted { IfErr result (λ refused. HasFaulted (D.fault_count device) (D.fault_count refused.0) refused.1) }
+        ensures reads { IfOk result (λ store. WhereTold (D.story device) (λ s. ReadsWithin IsOpeningRange s (state_of D.pages D.clock D.fault_count D.story store).device.story)) }
+        ensures reads_refused { IfErr result (λ refused. WhereTold (D.story device) (λ s. ReadsWithin IsOpeningRange s (D.story refused.0))) }
+        ensures same_pages { IfErr result (λ refused. D.pages refused.0 ≡ D.pages device) }
+    {
+        let mut device = device;
+        match open_state(alloc, &mut device) {
+            Ok(opened) => Ok(Store::of_opened(alloc, device, opened)),
+            Err(fault) => Err((device, fault)),
+        }
+    }
+
+    // The store when nothing has happened yet.
+    fn of_opened(alloc: Global, device: D, opened: OpenedState) -> Store<D>
+        ensures { state_of D.pages D.clock D.fault_count D.story result ≡ opened_state (device_of D.pages D.clock D.fault_count D.story device) opened.indexes opened.log opened.state.0 }
+    {
+        let opened_at = device.clock();
+        let opened_faults = device.faults();
+        let OpenedState {
+            indexes,
+            log,
+            state,
+        } = opened;
+        Store {
+            device,
+            indexes,
+            state,
+            log,
+            seq: 0,
+            stopped: None,
+            acks: ItemList::new(alloc),
+            opened_at,
+            opened_faults,
+        }
+    }
+}
