@@ -139,10 +139,7 @@ fn stepped(failing: u64, alloc: Global) -> Option<(MemDevice, Result<(), Step>)>
 }
 
 /// The open slots, and those that are live.
-fn directory(
-    device: &mut MemDevice,
-    alloc: Global,
-) -> Option<(Vec<(u16, Slot)>, Vec<(u16, Slot)>)>
+fn directory(device: &mut MemDevice, alloc: Global) -> Option<(Vec<(u16, Slot)>, Vec<(u16, Slot)>)>
     requires { device.old.pages ≡ 1024 }
     ensures { device.new.pages ≡ 1024 }
 {

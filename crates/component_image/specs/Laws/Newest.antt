@@ -86,9 +86,9 @@ module _ (all : List Numbered) (index bound limit : ℕ) (ordered : AllOf (λ e.
       by_test true some of_index wide_enough =
           any-of (e.1.last_lsn ≤ bound) (Ends n) (λ f. is_hidden_by e.1 f.1) all wider some
           (λ f hidden ends.
-              let more : (e.1.last_lsn - e.1.first_lsn < f.1.last_lsn - f.1.first_lsn) × (e.1.last_lsn ≤ f.1.last_lsn) × (f.1.index ≡ e.1.index) = hides-wider e.1 f.1 is.0.0 hidden in
-              let up_to : f.1.last_lsn ≤ bound = ends (ap (λ (i : ℕ). i == index) more.2 ∙ of_index) (omega (arith, more.0, wide_enough)) in
-              omega (arith, more.1, up_to))
+          let more : (e.1.last_lsn - e.1.first_lsn < f.1.last_lsn - f.1.first_lsn) × (e.1.last_lsn ≤ f.1.last_lsn) × (f.1.index ≡ e.1.index) = hides-wider e.1 f.1 is.0.0 hidden in
+          let up_to : f.1.last_lsn ≤ bound = ends (ap (λ (i : ℕ). i == index) more.2 ∙ of_index) (omega (arith, more.0, wide_enough)) in
+          omega (arith, more.1, up_to))
 
   wide : (n : ℕ) → AllOf (Ends n) all
   wide zero = AllOf-weaker (λ e. (e.1.first_lsn ≤ e.1.last_lsn) × (e.1.last_lsn < limit)) (Ends zero) all (λ e is of_index wide. absurd (let no : ⊥ = omega (arith, is.1, wide) in no)) ordered

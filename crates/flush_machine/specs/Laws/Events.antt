@@ -72,7 +72,10 @@ pub reads-named : {X : Type 0} (old : StoreState) (now : DeviceState) (result : 
 reads-named old now result pages seq owner action change reads owes done same are =
     passes old (record old { device = now; seq = seq }) owner action (read_calls old result pages) false
     (record {
-      opened_at = refl; opened_faults = refl; declared = refl; acks = refl;
+      opened_at = refl;
+      opened_faults = refl;
+      declared = refl;
+      acks = refl;
       pages = reads.same_pages;
       stopped = refl;
       running = λ no. absurd (let e : true ≡ false = sym no in cc);
@@ -102,7 +105,12 @@ pub still-event : (old : StoreState) (lists : Lists) (seq owner : ℕ) (action :
 still-event old lists seq owner action owes done none goes =
     passes old (record old { lists = lists; seq = seq }) owner action [] false
     (record {
-      opened_at = refl; opened_faults = refl; declared = refl; acks = refl; pages = refl; stopped = refl;
+      opened_at = refl;
+      opened_faults = refl;
+      declared = refl;
+      acks = refl;
+      pages = refl;
+      stopped = refl;
       running = λ no. absurd (let e : true ≡ false = sym no in cc);
       group = λ no. absurd (let e : true ≡ false = sym no in cc);
       table = λ t. t;
@@ -125,7 +133,12 @@ pub works-event : (old : StoreState) (now : DeviceState) (log : Log) (lists : Li
 works-event old now log lists plan owner action pages works owes done are =
     passes old (record old { device = now; log = log; lists = lists }) owner action (ok_calls old.device.clock plan) false
     (record {
-      opened_at = refl; opened_faults = refl; declared = refl; acks = refl; pages = pages; stopped = refl;
+      opened_at = refl;
+      opened_faults = refl;
+      declared = refl;
+      acks = refl;
+      pages = pages;
+      stopped = refl;
       running = λ no. absurd (let e : true ≡ false = sym no in cc);
       group = λ no. absurd (let e : true ≡ false = sym no in cc);
       table = λ t. t;
@@ -144,7 +157,12 @@ pub fails-event : (old : StoreState) (now : DeviceState) (plan : Calls) (owner :
 fails-event old now plan owner action pages fails owes none same are =
     passes old (stopped_state old now) owner action (stopped_calls old now plan fails) true
     (record {
-      opened_at = refl; opened_faults = refl; declared = refl; acks = refl; pages = pages; stopped = refl;
+      opened_at = refl;
+      opened_faults = refl;
+      declared = refl;
+      acks = refl;
+      pages = pages;
+      stopped = refl;
       running = λ _. fails.going;
       group = λ _. none;
       table = λ t. t;
@@ -259,5 +277,5 @@ write-failed old mid now result pages owner op r reads fails is rose time reads_
       has = subst (λ (n : Machine). Has new n) same (failed-has (between old mid) now op mm made mid_has);
       tells = λ is_known. subst (λ (n : Machine). Tells o new n) same
           (let t : Tells o (between old mid) mm = mid_tells is_known in
-              failed-tells o (between old mid) now op r mm made fails mid_has t (failed-by mid.story now.story plan fails.stops t.now t.told));
+          failed-tells o (between old mid) now op r mm made fails mid_has t (failed-by mid.story now.story plan fails.stops t.now t.told));
     })
