@@ -1,6 +1,6 @@
 -- Which calls of a device succeeded, and when.
-use Rattle.std.specs.Prelude.{◌≡◌, ℕ, ◌+◌, List, [], ◌∷◌, ◌++◌, length, Option, Some}
-use Rattle.dev_model.specs.Story.{Read, Write, Sync, FailedWrite, FailedCall, Calls, Story, clock_of, after}
+use Rattle.std.specs.Prelude.{ℕ, ◌+◌, List, [], ◌∷◌, length}
+use Rattle.dev_model.specs.Story.{Read, Write, Sync, FailedWrite, FailedCall, Calls}
 use Rattle.dev_model.specs.declared.calls.DeviceCall.{DeviceCall}
 use Rattle.dev_model.specs.declared.calls.DeviceAct.{DeviceAct}
 use Rattle.dev_model.specs.declared.calls.DeviceAct.TheVariants.{ReadAt, WriteAt, SyncAll}
@@ -17,10 +17,3 @@ ok_calls clock (Write at new ∷ calls) = made_at (clock + 1) (WriteAt at (lengt
 ok_calls clock (Sync ∷ calls) = made_at (clock + 1) SyncAll ∷ ok_calls (clock + 1) calls
 ok_calls clock (FailedWrite at new ∷ calls) = ok_calls (clock + 1) calls
 ok_calls clock (FailedCall ∷ calls) = ok_calls (clock + 1) calls
-
--- The story went on from s by some calls, and those that succeeded are the first of these.
-pub record StopsWithin (s : Story) (now : Option Story) (all : List DeviceCall) : Type 0 where
-  pub calls : Calls
-  pub told : now ≡ Some (after s calls)
-  pub left : List DeviceCall
-  pub made : all ≡ ok_calls (clock_of s) calls ++ left

@@ -4,14 +4,13 @@ use Rattle.std.specs.Prelude.{OnOk, IsErr}
 use Rattle.std.proofs.lemmas.Bool.{cases_eq}
 use Rattle.std.proofs.lemmas.Bool.Decides.{nat_tests}
 use Rattle.std.proofs.lemmas.Option.{same_Some}
-use Rattle.dev_model.specs.Story.{Bytes, Calls, Story, Read, Write, Sync, after, with_call, bytes_of, patched, Did, HasStoppedIn, WhereTold, IsCalmAt, IsSettled, IsImageNow}
+use Rattle.dev_model.specs.Story.{Bytes, Calls, Story, Read, Write, Sync, after, with_call, bytes_of, patched, Did, HasStoppedIn, WhereTold, IsSettled, IsImageNow}
 use Rattle.dev_model.specs.Moments.{LeavesOnly, AreSpared}
 use Rattle.dev_model.specs.Laws.Frame.{IsSettled-spared, bytes_of-spared}
 use Rattle.dev_model.specs.Laws.Images.{IsReadable-settled}
 use Rattle.dev_model.specs.Laws.Plans.{LeavesOnly-did, Did-untold, all_noted-told, no_story}
 use Rattle.dev_model.specs.Laws.Ranges.{patched-outside, patched-inside}
 use Rattle.dev_model.specs.Laws.Runs.{During, after-append}
-use Rattle.image_model.specs.Opening.{IsLookedAt}
 use Rattle.device_format.specs.Planning.{close_superblock_if, close_gates, start_log, write_superblock, write_ticks, format_calls, Formats}
 use Rattle.device_format.specs.Formatting.{IsEmptyStore, IsFreshStore, IsUnformatted, HasNoStore, LooksAs, IsNoneOrEmpty, IsBeforeOrAfter}
 use Rattle.device_format.proofs.Joining.{During-join}
@@ -128,22 +127,19 @@ gate-open gate is = grind (arith, nat_tests)
 gate-shut : (gate : ℕ) → false ≡ (gate == 165) → gate ≢ 165
 gate-shut gate is = grind (arith, nat_tests)
 
--- the closing of the superblock, on a device that is calm where an opening looks
-module _ (s : Story) (calm : IsCalmAt (IsLookedAt (bytes_of s)) s) where
-  gate_settled : IsSettled s.past 0
-  gate_settled = calm 0 (inl (inl refl))
-
+-- the closing of the superblock, whose gate is on the disk
+module _ (s : Story) (gate_settled : IsSettled s.past 0) where
   first_or_behind : (i : ℕ) → (i ≡ 0) ⊎ (1 ≤ i)
   first_or_behind i = grind arith
 
   -- an image that has all but the gate, where the gate was open
-  old_or_none : bytes_of s 0 ≡ 165 → (image : Bytes) → ((i : ℕ) → 1 ≤ i → IsSettled s.past i → image i ≡ bytes_of s i) → LooksAs (bytes_of s) image ⊎ IsUnformatted image
+  old_or_none : bytes_of s 0 ≡ 165 → (image : Bytes) → ((i : ℕ) → 1 ≤ i → IsSettled s.past i → image i ≡ bytes_of s i) → LooksAs s image ⊎ IsUnformatted image
   old_or_none was_open image same = elim (cases_eq (image 0) 165) [
-    | inl is_open ↦ inl (λ i looked. ⊎_elim (λ gate. ap image gate ∙ is_open ∙ sym was_open ∙ ap (bytes_of s) (sym gate)) (λ behind. same i behind (calm i looked)) (first_or_behind i))
+    | inl is_open ↦ inl (λ i settled. ⊎_elim (λ gate. ap image gate ∙ is_open ∙ sym was_open ∙ ap (bytes_of s) (sym gate)) (λ behind. same i behind settled) (first_or_behind i))
     | inr shut ↦ inr shut
   ]
 
-  pub closing_during : (is_open : Bool) → is_open ≡ (bytes_of s 0 == 165) → (P : Bytes → Type 0) → ((image : Bytes) → LooksAs (bytes_of s) image ⊎ IsUnformatted image → P image)
+  pub closing_during : (is_open : Bool) → is_open ≡ (bytes_of s 0 == 165) → (P : Bytes → Type 0) → ((image : Bytes) → LooksAs s image ⊎ IsUnformatted image → P image)
       → During (with_call s (Read 0 1)) (close_superblock_if is_open) P
   closing_during false is P so = tt
   closing_during true is P so =
@@ -178,18 +174,18 @@ module _ (pages indexes : ℕ) (few : indexes ≤ 31) (s : Story) (is_open : Boo
   all_image : (image : Bytes) → IsImageNow (after s (format_calls is_open indexes pages)) image → IsEmptyStore pages indexes image
   all_image image is = rest_image pages indexes few shut_end image (subst (λ (t : Story). IsImageNow t image) all_is is)
 
-  all_during : IsCalmAt (IsLookedAt (bytes_of s)) s → is_open ≡ (bytes_of s 0 == 165) → During s (format_calls is_open indexes pages) (IsBeforeOrAfter pages indexes (bytes_of s))
-  all_during calm is = (
-    λ image during. inl (λ i looked. during i tt (calm i looked)),
-    During-join read (close_superblock_if is_open) (rest pages indexes few s) (IsBeforeOrAfter pages indexes (bytes_of s))
-        (closing_during s calm is_open is (IsBeforeOrAfter pages indexes (bytes_of s)) (λ image left. ⊎_elim (λ old. inl old) (λ none. inr (inl none)) left))
-        (rest_during pages indexes few shut_end (closing_shut s calm is_open is) (IsBeforeOrAfter pages indexes (bytes_of s)) (λ image left. inr left)),
+  all_during : IsSettled s.past 0 → is_open ≡ (bytes_of s 0 == 165) → During s (format_calls is_open indexes pages) (IsBeforeOrAfter pages indexes s)
+  all_during gate is = (
+    λ image during. inl (λ i settled. during i tt settled),
+    During-join read (close_superblock_if is_open) (rest pages indexes few s) (IsBeforeOrAfter pages indexes s)
+        (closing_during s gate is_open is (IsBeforeOrAfter pages indexes s) (λ image left. ⊎_elim (λ old. inl old) (λ none. inr (inl none)) left))
+        (rest_during pages indexes few shut_end (closing_shut s gate is_open is) (IsBeforeOrAfter pages indexes s) (λ image left. inr left)),
   )
 
   pub all_moments : {X E : Type 0} (old new : Option Story) (result : Result X E) → old ≡ Some s → Did (format_calls is_open indexes pages) old new result
-      → IsCalmAt (IsLookedAt (bytes_of s)) s → is_open ≡ (bytes_of s 0 == 165) → LeavesOnly s new (IsBeforeOrAfter pages indexes (bytes_of s))
-  all_moments old new result told did calm is =
-      LeavesOnly-did s (format_calls is_open indexes pages) (IsBeforeOrAfter pages indexes (bytes_of s)) old new result told did (all_during calm is) (λ image now. inr (inr (all_image image now)))
+      → IsSettled s.past 0 → is_open ≡ (bytes_of s 0 == 165) → LeavesOnly s new (IsBeforeOrAfter pages indexes s)
+  all_moments old new result told did gate is =
+      LeavesOnly-did s (format_calls is_open indexes pages) (IsBeforeOrAfter pages indexes s) old new result told did (all_during gate is) (λ image now. inr (inr (all_image image now)))
 
   -- over a superblock that is closed
   none_during : HasNoStore s → is_open ≡ (bytes_of s 0 == 165) → During s (format_calls is_open indexes pages) (IsNoneOrEmpty pages indexes)
@@ -220,9 +216,9 @@ formatted X E indexes pages clock clock_after (Some s) new (Ok x) few is = λ t 
     subst (IsFreshStore pages indexes) (same_Some _ _ (sym (is.did ∙ all_noted-told s (format_calls is.is_open indexes pages) (Some s) refl) ∙ now)) (all_fresh pages indexes few s is.is_open)
 
 pub any_moment : (X E : Type 0) (indexes pages clock clock_after : ℕ) (old new : Option Story) (result : Result X E) → indexes ≤ 31 → Formats indexes pages old new clock clock_after result
-    → WhereTold old (λ s. IsCalmAt (IsLookedAt (bytes_of s)) s → LeavesOnly s new (IsBeforeOrAfter pages indexes (bytes_of s)))
-any_moment X E indexes pages clock clock_after old new result few is s told calm =
-    all_moments pages indexes few s is.is_open old new result told is.did calm (is.told s told (IsReadable-settled s.past 0 (calm 0 (inl (inl refl)))))
+    → WhereTold old (λ s. IsSettled s.past 0 → LeavesOnly s new (IsBeforeOrAfter pages indexes s))
+any_moment X E indexes pages clock clock_after old new result few is s told gate =
+    all_moments pages indexes few s is.is_open old new result told is.did gate (is.told s told (IsReadable-settled s.past 0 gate))
 
 pub over_none : (X E : Type 0) (indexes pages clock clock_after : ℕ) (old new : Option Story) (result : Result X E) → indexes ≤ 31 → Formats indexes pages old new clock clock_after result
     → WhereTold old (λ s. HasNoStore s → LeavesOnly s new (IsNoneOrEmpty pages indexes))

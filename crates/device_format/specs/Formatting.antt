@@ -21,9 +21,9 @@ pub record IsFreshStore (pages indexes : ℕ) (s : Story) : Type 0 where
   pub calm : IsCalmAt (IsLookedAt (bytes_of s)) s
   pub store : IsEmptyStore pages indexes (bytes_of s)
 
--- an opening finds in it what it finds in the other
-abbrev pub LooksAs : (old image : Bytes) → Type 0
-LooksAs old image = (i : ℕ) → IsLookedAt old i → image i ≡ old i
+-- an image has all that was on the disk as it was read
+abbrev pub LooksAs : (old : Story) → (image : Bytes) → Type 0
+LooksAs old image = (i : ℕ) → IsSettled old.past i → image i ≡ bytes_of old i
 
 -- an opening finds no store
 abbrev pub IsUnformatted : Bytes → Type 0
@@ -39,5 +39,5 @@ abbrev pub IsNoneOrEmpty : (pages indexes : ℕ) → Bytes → Type 0
 IsNoneOrEmpty pages indexes image = IsUnformatted image ⊎ IsEmptyStore pages indexes image
 
 -- what a crash may leave while a device is formatted
-abbrev pub IsBeforeOrAfter : (pages indexes : ℕ) (old image : Bytes) → Type 0
+abbrev pub IsBeforeOrAfter : (pages indexes : ℕ) → (old : Story) → (image : Bytes) → Type 0
 IsBeforeOrAfter pages indexes old image = LooksAs old image ⊎ IsNoneOrEmpty pages indexes image

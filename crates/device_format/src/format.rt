@@ -1,9 +1,8 @@
 // The whole of a format, in its order.
 ghost use Rattle.std.specs.Prelude.{◌≡◌, ◌≤◌, OnOk};
 ghost use Rattle.dev_model.specs.Counts.{HasCause};
-ghost use Rattle.dev_model.specs.Story.{WhereTold, IsCalmAt, Did, Ticks, bytes_of};
+ghost use Rattle.dev_model.specs.Story.{WhereTold, IsSettled, Did, Ticks};
 ghost use Rattle.dev_model.specs.Moments.{LeavesOnly};
-ghost use Rattle.image_model.specs.Opening.{IsLookedAt};
 ghost use Rattle.device_format.specs.Planning.{Formats, write_calls, write_ticks};
 ghost use Rattle.device_format.specs.Formatting.{IsFreshStore, HasNoStore, IsBeforeOrAfter, IsNoneOrEmpty};
 
@@ -28,10 +27,10 @@ pub fn format_dev<D: Device>(device: &mut D, indexes: IndexSet) -> Result<(), Fa
     // After `Ok` the empty store is there, whatever was before.
     ensures formatted { OnOk result (WhereTold (D.story device.new) (IsFreshStore (D.pages device.old) indexes)) }
 
-    // Where each crash before the call left what is read, each crash at each moment of the call leaves that, or no store, or the
-    // empty one.
-    ensures any_moment { WhereTold (D.story device.old) (λ s. IsCalmAt (IsLookedAt (bytes_of s)) s → LeavesOnly s (D.story device.new)
-        (IsBeforeOrAfter (D.pages device.old) indexes (bytes_of s))) }
+    // Where the superblock's gate was on the disk, each crash at each moment of the call leaves all that was on the disk, or no
+    // store, or the empty one.
+    ensures any_moment { WhereTold (D.story device.old) (λ s. IsSettled s.past 0 → LeavesOnly s (D.story device.new)
+        (IsBeforeOrAfter (D.pages device.old) indexes s)) }
 
     // Where each crash before the call left no store, each crash at each moment of the call leaves none, or the empty one. What
     // stands elsewhere doesn't matter, nor whether it is on the disk.

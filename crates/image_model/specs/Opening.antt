@@ -1,4 +1,4 @@
--- When an image opens, and what an opening looks at.
+-- When an image without components opens, and what an opening looks at there.
 use Rattle.std.specs.Prelude.{◌≡◌, ◌⊎◌, ℕ, ◌+◌, ◌<◌, ◌≤◌, List, [], ◌∷◌}
 use Rattle.dev_model.specs.Story.{Bytes}
 use Rattle.wal_log.specs.Segments.{segments_of, IsLooked}
@@ -11,7 +11,7 @@ use Rattle.image_model.specs.Superblock.{IsFormatted}
 use Rattle.comp_dir.specs.Places.{slot_start}
 use Rattle.image_model.specs.Directory.{HasNoComponent}
 
--- The number of the last write that each index has in components: the primary alone, which has none yet.
+-- the number of the last write that each index has in components: the primary alone, and that has none
 abbrev pub ends : List ℕ
 ends = 0 ∷ []
 

@@ -8,7 +8,7 @@ use Rattle.geo_base.specs.declared.limits.TheConstants.{MOST_KEY, MOST_COORDINAT
 use Rattle.geo_base.specs.declared.points.IndexKind.{IndexKind}
 use Rattle.geo_base.specs.declared.points.IndexKind.TheVariants.{Dhvb}
 use Rattle.geo_base.specs.declared.points.Row.{Row}
-use Rattle.table_model.specs.Commands.{put, del, Command, write, get, count, region}
+use Rattle.table_model.specs.Commands.{put, del, Command, on_table, flush, write, get, count, region}
 use Rattle.line_fold.specs.Lines.{is_nothing}
 use Rattle.script_lang.specs.declared.limits.TheConstants.{MOST_LINE}
 use Rattle.script_lang.specs.Words.{words_of, without_return}
@@ -88,28 +88,32 @@ pub data Meaning : Type 0 where
 unfoldable pub put_line : Words → Option Meaning
 put_line words = do
   row ← row_at words
-  at_end (step (write (put row.0))) row.1
+  at_end (step (on_table (write (put row.0)))) row.1
 
 -- KEY alone
 unfoldable pub del_line : Words → Option Meaning
 del_line words = do
   key ← number_at MOST_KEY words
-  at_end (step (write (del key.0))) key.1
+  at_end (step (on_table (write (del key.0)))) key.1
 
 unfoldable pub get_line : Words → Option Meaning
 get_line words = do
   key ← number_at MOST_KEY words
-  at_end (step (get key.0)) key.1
+  at_end (step (on_table (get key.0))) key.1
 
 -- no field
 unfoldable pub count_line : Words → Option Meaning
-count_line words = at_end (step count) words
+count_line words = at_end (step (on_table count)) words
 
 unfoldable pub region_line : Words → Option Meaning
 region_line words = do
   kind ← kind_at words
   rect ← rect_at kind.1
-  at_end (step (region kind.0 rect.0)) rect.1
+  at_end (step (on_table (region kind.0 rect.0))) rect.1
+
+-- no field
+unfoldable pub flush_line : Words → Option Meaning
+flush_line words = at_end (step flush) words
 
 -- a first word with the form that it begins
 pub record Form : Type 0 where
@@ -123,6 +127,7 @@ forms =
     ∷ record { verb = codes "get"; reads = get_line }
     ∷ record { verb = codes "count"; reads = count_line }
     ∷ record { verb = codes "region"; reads = region_line }
+    ∷ record { verb = codes "flush"; reads = flush_line }
     ∷ []
 
 unfoldable pub read_by : List Form → List ℕ → Words → Option Meaning

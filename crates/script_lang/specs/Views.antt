@@ -4,7 +4,7 @@ use Rattle.table_model.specs.Commands as model
 use Rattle.table_model.specs.Phases.{Phases}
 use Rattle.script_lang.specs.Grammar as grammar
 use Rattle.script_lang.specs.declared.commands.Command.{Command}
-use Rattle.script_lang.specs.declared.commands.Command.TheVariants.{Put, Del, Get, Count, Region}
+use Rattle.script_lang.specs.declared.commands.Command.TheVariants.{Put, Del, Get, Count, Region, Flush}
 use Rattle.script_lang.specs.declared.commands.Script.{Script}
 use Rattle.script_lang.specs.declared.commands.Answer.{Answer}
 use Rattle.script_lang.specs.declared.commands.Answer.TheVariants.{PutNew, PutOld, DelNone, DelOld, GetNone, GetOld, Counted, Rows}
@@ -12,11 +12,12 @@ use Rattle.script_lang.specs.declared.lines.Meaning.{Meaning}
 use Rattle.script_lang.specs.declared.lines.Meaning.TheVariants.{Nothing, Step, Bad}
 
 abbrev pub command_of : Command → model.Command
-command_of (Put row) = model.write (model.put row)
-command_of (Del key) = model.write (model.del key)
-command_of (Get key) = model.get key
-command_of Count = model.count
-command_of (Region kind rect) = model.region kind rect
+command_of (Put row) = model.on_table (model.write (model.put row))
+command_of (Del key) = model.on_table (model.write (model.del key))
+command_of (Get key) = model.on_table (model.get key)
+command_of Count = model.on_table model.count
+command_of (Region kind rect) = model.on_table (model.region kind rect)
+command_of Flush = model.flush
 
 abbrev pub commands_of : List Command → List model.Command
 commands_of cs = map command_of cs

@@ -16,6 +16,8 @@ pub enum Command {
     Count,
     /// Asks for the rows in a rectangle, edges included, by an index.
     Region(IndexKind, Rect),
+    /// Puts the rows that are only in memory and in the log into a component on the device. Nothing is told of it.
+    Flush,
 }
 
 pub type CommandList = ItemList<Command>;

@@ -2,8 +2,8 @@
 ghost use Rattle.std.specs.Prelude.{◌≡◌, None, Some};
 ghost use Rattle.std.specs.Option.{option_map};
 ghost use Rattle.script_lang.specs.Words.{words_of};
-ghost use Rattle.script_lang.specs.Grammar.{put_line, del_line, get_line, count_line, region_line, meaning_of, meaning_of_words, read_by, forms, or_bad};
-ghost use Rattle.script_lang.specs.Views.{meaning_as};
+ghost use Rattle.script_lang.specs.Grammar.{put_line, del_line, get_line, region_line, meaning_of, meaning_of_words, read_by, forms, or_bad, at_end, step};
+ghost use Rattle.script_lang.specs.Views.{command_of, meaning_as};
 
 use crate::commands::Command;
 use crate::fields::{key_field, kind_field, rect_field, row_field};
@@ -48,12 +48,12 @@ fn get_fields(text: &[u8]) -> Meaning
     }
 }
 
-#[tactic(auto, unfolding(crate::specs::Grammar::count_line))]
-fn count_fields(text: &[u8]) -> Meaning
-    ensures { meaning_as result ≡ or_bad (count_line (words_of text.now)) }
+// A command that has no fields.
+fn without_fields(command: Command, text: &[u8]) -> Meaning
+    ensures { meaning_as result ≡ or_bad (at_end (step (command_of command)) (words_of text.now)) }
 {
     if is_end(text) {
-        Meaning::Step(Command::Count)
+        Meaning::Step(command)
     } else {
         Meaning::Bad
     }
@@ -72,7 +72,7 @@ fn region_fields(text: &[u8]) -> Meaning
     }
 }
 
-#[tactic(auto, unfolding(crate::specs::Grammar::read_by))]
+#[tactic(auto, unfolding(crate::specs::Grammar::read_by, crate::specs::Grammar::count_line, crate::specs::Grammar::flush_line))]
 fn line_by_verb(verb: &[u8], text: &[u8]) -> Meaning
     ensures { meaning_as result ≡ or_bad (read_by forms verb.now (words_of text.now)) }
 {
@@ -86,10 +86,13 @@ fn line_by_verb(verb: &[u8], text: &[u8]) -> Meaning
         return get_fields(text);
     }
     if verb == b"count".as_slice() {
-        return count_fields(text);
+        return without_fields(Command::Count, text);
     }
     if verb == b"region".as_slice() {
         return region_fields(text);
+    }
+    if verb == b"flush".as_slice() {
+        return without_fields(Command::Flush, text);
     }
     Meaning::Bad
 }

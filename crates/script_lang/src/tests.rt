@@ -24,9 +24,12 @@ fn scripts_are_read(rt: HostRuntime) -> Result<(), Fail> {
         (b"put 7 3 4 a\nregion dhvb 0 0 9 9", Ok(2)),
         (b"\t put\t007  3 4   a \r\n# no line\n\n", Ok(1)),
         (b"del 7\n get\t18446744073709551615 \ncount\r\n", Ok(3)),
+        (b"flush\n \tflush \r\nflush\r", Ok(3)),
         (b"count\ndel\n", Err(2)),
         (b"get 7 8", Err(1)),
         (b"count 1", Err(1)),
+        (b"flush\nflush 1", Err(2)),
+        (b"flushes", Err(1)),
         (b"del 18446744073709551616", Err(1)),
         (b"\nput 1 65536 0 -", Err(2)),
         (b"put 18446744073709551616 0 0 -", Err(1)),
@@ -89,14 +92,22 @@ fn row(key: u64, x: u16, note: &[u8]) -> Option<Row> {
 }
 
 #[test]
-fn a_line_of_a_key_is_its_command(rt: HostRuntime) -> Result<(), Fail> {
+fn a_line_is_its_command(rt: HostRuntime) -> Result<(), Fail> {
     let alloc = rt.alloc();
-    let mut source = MemSource::new(b"del 3\nget 4\ncount".to_vec(alloc)?, Vec::new(alloc));
+    let mut source = MemSource::new(
+        b"del 3\nget 4\ncount\nflush".to_vec(alloc)?,
+        Vec::new(alloc),
+    );
     let Ok(script) = read_script(alloc, &mut source) else {
         return Err(Fail::from("the script isn't read"));
     };
     match script.setup.as_slice() {
-        [Command::Del(deleted), Command::Get(asked), Command::Count] => {
+        [
+            Command::Del(deleted),
+            Command::Get(asked),
+            Command::Count,
+            Command::Flush,
+        ] => {
             assert_eq!(rt; (*deleted, *asked), (3, 4));
         }
         _ => return Err(Fail::from("the script has other commands")),

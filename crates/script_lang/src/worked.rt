@@ -1,23 +1,25 @@
 // Worked scripts: what the definitions say of them, line by line of the language.
 ghost use Rattle.std.specs.Prelude.{◌≡◌, [], ◌∷◌, ◌++◌, codes, Ok, Err};
-ghost use Rattle.table_model.specs.Commands.{write, put, del, get, count};
+ghost use Rattle.table_model.specs.Commands.{on_table, flush, write, put, del, get, count};
 ghost use Rattle.script_lang.specs.Scripts.{script_of, bad_line, too_long};
 ghost use Rattle.script_lang.specs.Examples.{alone, row_7, all_of_nine, long_comment};
 
 /// Scripts that are read.
 pub fn worked_scripts()
     ensures nothing { script_of 1000 9 [] ≡ Ok (alone []) }
-    ensures two_commands { script_of 1000 9 (codes "put 7 3 4 a\nregion dhvb 0 0 9 9\n") ≡ Ok (alone (write (put row_7) ∷ all_of_nine ∷ [])) }
-    ensures lines_of_a_key { script_of 1000 9 (codes "del 7\nget 18446744073709551615\ncount\n") ≡ Ok (alone (write (del 7) ∷ get 18446744073709551615 ∷ count ∷ [])) }
-    ensures last_line_is_open { script_of 1000 9 (codes "put 7 3 4 a") ≡ Ok (alone (write (put row_7) ∷ [])) }
-    ensures blanks_and_zeros { script_of 1000 9 (codes "\t put\t007  3 4   a \r\n\n  \t\nregion dhvb 0 0 9 9\r") ≡ Ok (alone (write (put row_7) ∷ all_of_nine ∷ [])) }
-    ensures comments { script_of 1000 9 (codes "# a comment\r\n \t#put 1\nput 7 3 4 a") ≡ Ok (alone (write (put row_7) ∷ [])) }
-    ensures a_dash_is_the_empty_note { script_of 1000 9 (codes "put 7 3 4 -") ≡ Ok (alone (write (put (record row_7 { note = [] })) ∷ [])) }
-    ensures two_dashes_are_a_note { script_of 1000 9 (codes "put 7 3 4 --") ≡ Ok (alone (write (put (record row_7 { note = codes "--" })) ∷ [])) }
-    ensures twenty_digits { script_of 1000 9 (codes "put 00000000000000000007 3 4 a") ≡ Ok (alone (write (put row_7) ∷ [])) }
-    ensures the_greatest_key { script_of 1000 9 (codes "put 18446744073709551615 3 4 a") ≡ Ok (alone (write (put (record row_7 { key = 18446744073709551615 })) ∷ [])) }
+    ensures two_commands { script_of 1000 9 (codes "put 7 3 4 a\nregion dhvb 0 0 9 9\n") ≡ Ok (alone (on_table (write (put row_7)) ∷ all_of_nine ∷ [])) }
+    ensures lines_of_a_key { script_of 1000 9 (codes "del 7\nget 18446744073709551615\ncount\n") ≡ Ok (alone (on_table (write (del 7)) ∷ on_table (get 18446744073709551615) ∷ on_table count ∷ [])) }
+    ensures a_flush { script_of 1000 9 (codes "put 7 3 4 a\nflush\ncount\n") ≡ Ok (alone (on_table (write (put row_7)) ∷ flush ∷ on_table count ∷ [])) }
+    ensures blanks_round_a_flush { script_of 1000 9 (codes " \t flush \t \r\nflush\r") ≡ Ok (alone (flush ∷ flush ∷ [])) }
+    ensures last_line_is_open { script_of 1000 9 (codes "put 7 3 4 a") ≡ Ok (alone (on_table (write (put row_7)) ∷ [])) }
+    ensures blanks_and_zeros { script_of 1000 9 (codes "\t put\t007  3 4   a \r\n\n  \t\nregion dhvb 0 0 9 9\r") ≡ Ok (alone (on_table (write (put row_7)) ∷ all_of_nine ∷ [])) }
+    ensures comments { script_of 1000 9 (codes "# a comment\r\n \t#put 1\nput 7 3 4 a") ≡ Ok (alone (on_table (write (put row_7)) ∷ [])) }
+    ensures a_dash_is_the_empty_note { script_of 1000 9 (codes "put 7 3 4 -") ≡ Ok (alone (on_table (write (put (record row_7 { note = [] }))) ∷ [])) }
+    ensures two_dashes_are_a_note { script_of 1000 9 (codes "put 7 3 4 --") ≡ Ok (alone (on_table (write (put (record row_7 { note = codes "--" }))) ∷ [])) }
+    ensures twenty_digits { script_of 1000 9 (codes "put 00000000000000000007 3 4 a") ≡ Ok (alone (on_table (write (put row_7)) ∷ [])) }
+    ensures the_greatest_key { script_of 1000 9 (codes "put 18446744073709551615 3 4 a") ≡ Ok (alone (on_table (write (put (record row_7 { key = 18446744073709551615 }))) ∷ [])) }
     ensures a_line_of_200 { script_of 1000 9 (long_comment 200 ++ codes "\r\n") ≡ Ok (alone []) }
-    ensures as_many_bytes_as_allowed { script_of 11 9 (codes "put 7 3 4 a") ≡ Ok (alone (write (put row_7) ∷ [])) }
+    ensures as_many_bytes_as_allowed { script_of 11 9 (codes "put 7 3 4 a") ≡ Ok (alone (on_table (write (put row_7)) ∷ [])) }
 {}
 
 /// Scripts that are refused, each for the first thing that is wrong with it.
@@ -29,6 +31,7 @@ pub fn worked_refusals()
     ensures a_key_too_many { script_of 1000 9 (codes "get 1 2") ≡ Err (bad_line 1) }
     ensures a_great_key_to_get { script_of 1000 9 (codes "get 18446744073709551616") ≡ Err (bad_line 1) }
     ensures a_count_of_a_key { script_of 1000 9 (codes "count 1") ≡ Err (bad_line 1) }
+    ensures a_flush_of_a_key { script_of 1000 9 (codes "flush 1") ≡ Err (bad_line 1) }
     ensures a_great_coordinate { script_of 1000 9 (codes "put 1 65536 0 -") ≡ Err (bad_line 1) }
     ensures a_great_key { script_of 1000 9 (codes "put 18446744073709551616 0 0 -") ≡ Err (bad_line 1) }
     ensures twenty_one_digits { script_of 1000 9 (codes "put 000000000000000000007 3 4 a") ≡ Err (bad_line 1) }

@@ -7,6 +7,7 @@ ghost use Rattle.std.specs.Prelude.{◌≡◌, ◌==◌, ◌&&◌, ◌||◌, ◌
 use dev_model::{Failed, ReadSource, WriteSink};
 use file_device::FileDevice;
 use script_lang::read_number;
+use space_map::{LEAST_PAGES, MOST_PAGES};
 use spatial_run::run_top;
 use std::alloc::Global;
 use std::io::{BufReader, BufWriter, ErrorKind};
@@ -15,11 +16,6 @@ use std::{env, io};
 
 // A system call reads or writes so many bytes at the most.
 const BUFFER: usize = 65_536;
-
-// How many pages a device may have.
-const LEAST_PAGES: u32 = 1024;
-
-const MOST_PAGES: u32 = 65_536;
 
 // The words behind the program's name.
 fn words_of(alloc: Global, rt: &HostRuntime) -> io::Result<Vec<String>> {
@@ -48,7 +44,7 @@ fn texts_of<'a>(alloc: Global, words: &'a [String]) -> io::Result<Vec<&'a str>> 
 
 // The pages that a word gives.
 fn pages_of(word: &str) -> Option<u32>
-    ensures { IfSome result (λ pages. LEAST_PAGES ≤ pages) }
+    ensures { IfSome result (λ pages. (LEAST_PAGES ≤ pages) × (pages ≤ MOST_PAGES)) }
 {
     match read_number(word.as_bytes(), u64::from(MOST_PAGES)) {
         Some(pages) if pages >= u64::from(LEAST_PAGES) => Some(pages as u32),
@@ -67,7 +63,8 @@ fn status_when_flushed(status: u8, flushed: Result<(), Failed>) -> u8
 }
 
 fn run(alloc: Global, rt: &HostRuntime, words: &[&str], device: FileDevice) -> io::Result<u8>
-    requires { LEAST_PAGES ≤ device.pages }
+    requires least { LEAST_PAGES ≤ device.pages }
+    requires most { device.pages ≤ MOST_PAGES }
 {
     let mut script = ReadSource::new(BufReader::with_capacity(alloc, BUFFER, rt.stdin())?);
     let mut out = WriteSink::new(BufWriter::with_capacity(alloc, BUFFER, rt.stdout())?);

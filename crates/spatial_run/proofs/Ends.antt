@@ -28,7 +28,7 @@ nothing-read d s is = ReadsWithin-start IsOpeningRange s d.story is
 pub store-plain : (s : Phases Command) (r : RunRecord) (opened : StoreState) (device new : DeviceState) (acks : List ℕ) → IsSetupAlone s → OpensFrom device opened → StoreRan opened new acks s r → IsPlain (ran s r)
 store-plain s r opened device new acks alone opens ran_it =
     let on : RanOn device new acks s r = ran-on device new acks s r opened ran_it.few alone opens ran_it in
-    (alone, ran_it.alone, does-length s.setup r.setup on.events on.does, on.fits.setup_rises)
+    (alone, ran_it.alone, on.fits.setup, on.fits.setup_rises)
 
 pub run-end : (s : Phases Command) (device now new : DeviceState) (opened : StoreState) (acks : List ℕ) (e : Ending) → IsSetupAlone s → OpensFrom device opened → opened.device ≡ now → OnlyOpened device now
     → IsStoreEnd s opened new acks e → IsRunEnd s device new acks e

@@ -5,7 +5,7 @@ use Rattle.std.proofs.Common.{ap, sym, ◌∙◌, subst, arith, refl}
 use Rattle.std.proofs.lemmas.Bool.{lt-ltb}
 use Rattle.std.proofs.lemmas.List.{append-nil}
 use Rattle.dev_model.specs.declared.streams.Failed.{Failed}
-use Rattle.table_model.specs.Commands.{Command, Outcome, answered, refused}
+use Rattle.table_model.specs.Commands.{Command, on_table, flush, Outcome, answered, quiet, refused}
 use Rattle.table_model.specs.Phases.{Phases}
 use Rattle.table_model.specs.Record.{RunRecord, HistoryAnswer, FitsScript, lane_answers, lanes_answers, all_answers, in_order, inserted, history, seqs, Rises, history_text, refusals_text, lanes_refusals_text, record_text, OneEach, OneEachLane, AllApart}
 use Rattle.spatial_run.specs.Endings.{is_refused_for, any_refused_for, run_status, first_of, is_damaged, is_device, is_full, is_no_index, is_memory}
@@ -24,19 +24,23 @@ in_order_rising (e ∷ []) h = refl
 in_order_rising (e ∷ f ∷ es) h =
     ap (inserted e) (in_order_rising (f ∷ es) h.1) ∙ ap (λ t. cond t (e ∷ f ∷ es) (f ∷ inserted e es)) (lt-ltb e.seq f.seq h.0)
 
-answers_seqs : (cs : List Command) (os : List Outcome) → length cs ≡ length os → seqs_in (lane_answers 0 cs os) ≡ seqs os
-answers_seqs [] [] e = refl
-answers_seqs [] (o ∷ os) e = absurd (omega arith)
-answers_seqs (c ∷ cs) [] e = absurd (omega arith)
-answers_seqs (c ∷ cs) (answered seq reply ∷ os) e = ap (λ ns. seq ∷ ns) (answers_seqs cs os (omega arith))
-answers_seqs (c ∷ cs) (refused why ∷ os) e = answers_seqs cs os (omega arith)
+answers_seqs : (cs : List Command) (os : List Outcome) → OneEach cs os → seqs_in (lane_answers 0 cs os) ≡ seqs os
+answers_seqs [] [] each = refl
+answers_seqs [] (o ∷ os) each = absurd each
+answers_seqs (c ∷ cs) [] each = absurd each
+answers_seqs (on_table c ∷ cs) (answered seq reply ∷ os) each = ap (λ ns. seq ∷ ns) (answers_seqs cs os each.1)
+answers_seqs (flush ∷ cs) (answered seq reply ∷ os) each = absurd each.0
+answers_seqs (c ∷ cs) (quiet ∷ os) each = answers_seqs cs os each.1
+answers_seqs (c ∷ cs) (refused why ∷ os) each = answers_seqs cs os each.1
 
-history_text_of : (place : ℕ) (cs : List Command) (os : List Outcome) → length cs ≡ length os → history_text place (lane_answers 0 cs os) ≡ answers_text place os
-history_text_of place [] [] e = refl
-history_text_of place [] (o ∷ os) e = absurd (omega arith)
-history_text_of place (c ∷ cs) [] e = absurd (omega arith)
-history_text_of place (c ∷ cs) (answered seq reply ∷ os) e = ap (λ t. answered_part place (answered seq reply) ++ t) (history_text_of (place + 1) cs os (omega arith))
-history_text_of place (c ∷ cs) (refused why ∷ os) e = history_text_of place cs os (omega arith)
+history_text_of : (place : ℕ) (cs : List Command) (os : List Outcome) → OneEach cs os → history_text place (lane_answers 0 cs os) ≡ answers_text place os
+history_text_of place [] [] each = refl
+history_text_of place [] (o ∷ os) each = absurd each
+history_text_of place (c ∷ cs) [] each = absurd each
+history_text_of place (on_table c ∷ cs) (answered seq reply ∷ os) each = ap (λ t. answered_part place (answered seq reply) ++ t) (history_text_of (place + 1) cs os each.1)
+history_text_of place (flush ∷ cs) (answered seq reply ∷ os) each = absurd each.0
+history_text_of place (c ∷ cs) (quiet ∷ os) each = history_text_of place cs os each.1
+history_text_of place (c ∷ cs) (refused why ∷ os) each = history_text_of place cs os each.1
 
 -- with no lanes and nothing after them the answers are those of the setup
 answers_alone : (s : Phases Command) (r : RunRecord) → IsSetupAlone s → all_answers s r ≡ lane_answers 0 s.setup r.setup
@@ -46,12 +50,12 @@ answers_alone s r alone =
     ∙ append-nil (lane_answers 0 s.setup r.setup ++ [])
     ∙ append-nil (lane_answers 0 s.setup r.setup)
 
-pub history_alone : (s : Phases Command) (r : RunRecord) → IsSetupAlone s → length s.setup ≡ length r.setup → Rises (seqs r.setup) → history s r ≡ lane_answers 0 s.setup r.setup
+pub history_alone : (s : Phases Command) (r : RunRecord) → IsSetupAlone s → OneEach s.setup r.setup → Rises (seqs r.setup) → history s r ≡ lane_answers 0 s.setup r.setup
 history_alone s r alone one_each rises =
     ap in_order (answers_alone s r alone)
     ∙ in_order_rising (lane_answers 0 s.setup r.setup) (subst Rises (sym (answers_seqs s.setup r.setup one_each)) rises)
 
-pub record_text_alone : (s : Phases Command) (r : RunRecord) → IsSetupAlone s → IsSetupAlone r → length s.setup ≡ length r.setup → Rises (seqs r.setup)
+pub record_text_alone : (s : Phases Command) (r : RunRecord) → IsSetupAlone s → IsSetupAlone r → OneEach s.setup r.setup → Rises (seqs r.setup)
     → record_text s r ≡ answers_text 0 r.setup ++ refusals_text 0 r.setup
 record_text_alone s r alone alone' one_each rises =
     (λ i. history_text 0 (history_alone s r alone one_each rises i) ++ refusals_text 0 (r.setup ++ alone'.1 i) ++ lanes_refusals_text 1 (alone'.0 i))

@@ -55,6 +55,7 @@ answers_split outcomes i place o within is =
 
 refusals_cons : (o : spec.Outcome) (os : List spec.Outcome) → refusals_text 0 (o ∷ os) ≡ refused_part o ++ refusals_text 0 os
 refusals_cons (spec.answered seq reply) os = refl
+refusals_cons spec.quiet os = refl
 refusals_cons (spec.refused why) os = refl
 
 pub refusals_split : (outcomes : List Outcome) (i : ℕ) (o : Outcome) → i < length outcomes → o ≡ get_or outcomes i o

@@ -4,7 +4,7 @@ use Rattle.std.specs.List.{list_any}
 use Rattle.dev_model.specs.declared.streams.Failed.{Failed}
 use Rattle.dev_model.specs.Counts.{Rose, Counts}
 use Rattle.dev_model.specs.Streams.{Says}
-use Rattle.table_model.specs.Commands.{Command, Outcome, answered, refused}
+use Rattle.table_model.specs.Commands.{Command, Outcome, answered, quiet, refused}
 use Rattle.table_model.specs.declared.Why.{Why}
 use Rattle.table_model.specs.declared.Why.TheVariants as why
 use Rattle.table_model.specs.Phases.{Phases}
@@ -13,8 +13,8 @@ use Rattle.script_lang.specs.declared.limits.TheConstants.{MOST_BYTES, MOST_COMM
 use Rattle.script_lang.specs.Scripts as script
 use Rattle.script_lang.specs.Scripts.{Wrong, script_of}
 use Rattle.store_machine.specs.Standing.{DeviceState}
-use Rattle.store_core.specs.declared.opening.OpenFault.{OpenFault}
-use Rattle.store_core.specs.declared.opening.OpenFault.TheVariants as opening
+use Rattle.store_opening.specs.declared.opening.OpenFault.{OpenFault}
+use Rattle.store_opening.specs.declared.opening.OpenFault.TheVariants as opening
 use Rattle.spatial_run.specs.Tasks.{Task, format, serial, fresh}
 use Rattle.spatial_run.specs.OnDevice.{Formatting, Prepared, OnlyOpened, NotOpened, RanOn}
 
@@ -114,6 +114,7 @@ IsCause task so sn left old new acks (ran s r) = RunsScript task × (sn ≡ so) 
 -- which refusal a command had
 abbrev pub is_refused_for : (Why → Bool) → Outcome → Bool
 is_refused_for p (answered seq reply) = false
+is_refused_for p quiet = false
 is_refused_for p (refused w) = p w
 
 abbrev pub any_refused_for : (Why → Bool) → RunRecord → Bool

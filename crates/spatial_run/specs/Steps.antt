@@ -1,39 +1,36 @@
 -- The private steps of a run: one lane's outcomes, what they print, and what a run has while all commands are the
 -- setup. No public contract needs this file.
-use Rattle.std.specs.Prelude.{◌≡◌, ℕ, ◌+◌, List, [], ◌∷◌, ◌++◌, length}
-use Rattle.table_model.specs.Commands.{Command, Outcome, answered, refused}
+use Rattle.std.specs.Prelude.{◌≡◌, ℕ, ◌+◌, List, [], ◌∷◌, ◌++◌}
+use Rattle.table_model.specs.Commands.{Command, Outcome, answered, quiet, refused}
 use Rattle.table_model.specs.Phases.{Phases}
-use Rattle.table_model.specs.Record.{Rises, seqs}
+use Rattle.table_model.specs.Record.{OneEach, Rises, seqs}
 use Rattle.table_model.specs.Text.{answer_text, refused_text}
-use Rattle.store_machine.specs.Commands.{IsCall, DoesAll}
-use Rattle.store_machine.specs.Standing.{StoreState, Adds, Makes}
-use Rattle.store_machine.specs.declared.events.Action.{Action}
+use Rattle.store_machine.specs.Commands.{DoesAll}
+use Rattle.store_machine.specs.Standing.{StoreState}
 use Rattle.store_machine.specs.declared.events.Event.{Event}
+use Rattle.store_commands.specs.Commands.{Made}
 use Rattle.spatial_run.specs.Endings.{Ending, bad_words, source_fault, bad_line, too_long, no_memory, format_failed, formatted, not_opened, ran}
 
--- a command made one event, and this became of it
-pub record MadeOne (old new : StoreState) (command : Command) (outcome : Outcome) : Type 0 where
-  pub action : Action
-  pub call : IsCall action command outcome
-  pub makes : Makes old new 0 action
-
--- commands made one event each, and this became of them
+-- commands made their events, one after another, and this became of them
 pub record MadeAll (old new : StoreState) (commands : List Command) (outcomes : List Outcome) : Type 0 where
   pub events : List Event
-  pub adds : Adds old new events
+  pub made : Made old new 0 events
   pub does : DoesAll commands outcomes events
 
 -- what an outcome prints as an answer, the next place, and what it prints as a refusal
 abbrev pub answered_part : ℕ → Outcome → List ℕ
 answered_part place (answered seq reply) = answer_text place 0 reply
+answered_part place quiet = []
 answered_part place (refused why) = []
 
 abbrev pub place_after : ℕ → Outcome → ℕ
 place_after place (answered seq reply) = place + 1
+place_after place quiet = place
 place_after place (refused why) = place
 
 abbrev pub refused_part : Outcome → List ℕ
 refused_part (answered seq reply) = []
+refused_part quiet = []
 refused_part (refused why) = refused_text 0 why
 
 -- the answered ones, from a place on
@@ -55,4 +52,4 @@ IsPlain no_memory = Unit {0}
 IsPlain format_failed = Unit {0}
 IsPlain (formatted pages) = Unit {0}
 IsPlain (not_opened _) = Unit {0}
-IsPlain (ran s r) = IsSetupAlone s × IsSetupAlone r × (length s.setup ≡ length r.setup) × Rises (seqs r.setup)
+IsPlain (ran s r) = IsSetupAlone s × IsSetupAlone r × OneEach s.setup r.setup × Rises (seqs r.setup)

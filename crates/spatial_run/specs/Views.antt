@@ -6,7 +6,7 @@ use Rattle.script_lang.specs.Views.{phases_of, reply_of}
 use Rattle.spatial_run.specs.Endings as spec
 use Rattle.spatial_run.specs.Tasks as tasks
 use Rattle.spatial_run.specs.declared.record.Outcome.{Outcome}
-use Rattle.spatial_run.specs.declared.record.Outcome.TheVariants.{Answered, Refused}
+use Rattle.spatial_run.specs.declared.record.Outcome.TheVariants.{Answered, Quiet, Refused}
 use Rattle.spatial_run.specs.declared.record.RunRecord.{RunRecord}
 use Rattle.spatial_run.specs.declared.task.Task.{Task}
 use Rattle.spatial_run.specs.declared.task.Task.TheVariants.{Format, Serial, Fresh}
@@ -15,6 +15,7 @@ use Rattle.spatial_run.specs.declared.ending.Ending.TheVariants.{BadWords, Sourc
 
 abbrev pub outcome_of : Outcome → model.Outcome
 outcome_of (Answered seq answer) = model.answered seq (reply_of answer)
+outcome_of Quiet = model.quiet
 outcome_of (Refused why) = model.refused why
 
 abbrev pub outcomes_of : List Outcome → List model.Outcome

@@ -1,9 +1,10 @@
 // A task on a device: a format, and a script on the store that is there.
 ghost use Rattle.std.specs.Prelude.{◌≡◌, ◌≤◌, [], Some, Ok, Err, IfOk, IfErr};
 ghost use Rattle.std.specs.Option.{option_map};
-ghost use Rattle.image_model.specs.declared.places.TheConstants.{LOG_PAGES};
+ghost use Rattle.space_map.specs.declared.space.TheConstants.{LEAST_PAGES, MOST_PAGES};
 ghost use Rattle.script_lang.specs.Views.{phases_of};
-ghost use Rattle.store_machine.specs.Standing.{DeviceState, IsReady, OpensFrom};
+ghost use Rattle.store_machine.specs.Standing.{DeviceState, OpensFrom};
+ghost use Rattle.store_commands.specs.Commands.{IsServing};
 ghost use Rattle.store_core.specs.Stores.{state_of, device_of};
 ghost use Rattle.spatial_run.specs.Tasks as tasks;
 ghost use Rattle.spatial_run.specs.Endings.{IsCause};
@@ -60,7 +61,7 @@ fn ran(alloc: Global, script: Script, setup: OutcomeList) -> Ending
 
 // The script on a store that was opened.
 fn run_on<D: Device>(alloc: Global, script: Script, store: Store<D>) -> Run<D>
-    requires ready { IsReady (state_of D.pages D.clock D.fault_count D.story store) }
+    requires serving { IsServing (state_of D.pages D.clock D.fault_count D.story store) }
     requires opened { (from : DeviceState) × OpensFrom from (state_of D.pages D.clock D.fault_count D.story store) }
     requires alone { IsSetupAlone (phases_of script) }
     ensures end { IsStoreEnd (phases_of script) (state_of D.pages D.clock D.fault_count D.story store) (device_of D.pages D.clock D.fault_count D.story result.device) result.acks.items (ending_of result.ending) }
@@ -89,7 +90,8 @@ fn run_on<D: Device>(alloc: Global, script: Script, store: Store<D>) -> Run<D>
 
 // Opens the store that is on the device, and runs the script on it.
 fn run_script<D: Device>(alloc: Global, script: Script, device: D) -> Run<D>
-    requires pages { LOG_PAGES ≤ D.pages device }
+    requires least { LEAST_PAGES ≤ D.pages device }
+    requires most { D.pages device ≤ MOST_PAGES }
     requires alone { IsSetupAlone (phases_of script) }
     ensures end { IsRunEnd (phases_of script) (device_of D.pages D.clock D.fault_count D.story device) (device_of D.pages D.clock D.fault_count D.story result.device) result.acks.items (ending_of result.ending) }
     ensures plain { IsPlain (ending_of result.ending) }
@@ -102,7 +104,8 @@ fn run_script<D: Device>(alloc: Global, script: Script, device: D) -> Run<D>
 
 // Makes the device an empty store.
 fn format<D: Device>(alloc: Global, indexes: IndexSet, device: D) -> Run<D>
-    requires pages { LOG_PAGES ≤ D.pages device }
+    requires least { LEAST_PAGES ≤ D.pages device }
+    requires most { D.pages device ≤ MOST_PAGES }
     ensures end { IsFormatEnd indexes (device_of D.pages D.clock D.fault_count D.story device) (device_of D.pages D.clock D.fault_count D.story result.device) result.acks.items (ending_of result.ending) }
     ensures plain { IsPlain (ending_of result.ending) }
 {
@@ -118,7 +121,8 @@ fn format<D: Device>(alloc: Global, indexes: IndexSet, device: D) -> Run<D>
 
 // Makes the device an empty store, and runs the script on it.
 fn run_formatted<D: Device>(alloc: Global, indexes: IndexSet, script: Script, device: D) -> Run<D>
-    requires pages { LOG_PAGES ≤ D.pages device }
+    requires least { LEAST_PAGES ≤ D.pages device }
+    requires most { D.pages device ≤ MOST_PAGES }
     requires alone { IsSetupAlone (phases_of script) }
     ensures end { IsFreshEnd indexes (phases_of script) (device_of D.pages D.clock D.fault_count D.story device) (device_of D.pages D.clock D.fault_count D.story result.device) result.acks.items (ending_of result.ending) }
     ensures plain { IsPlain (ending_of result.ending) }
@@ -148,7 +152,8 @@ fn read<R: Source>(alloc: Global, source: &mut R) -> Result<Script, Ending>
 
 // Runs a script on the store that is there.
 fn run_serial<R: Source, D: Device>(alloc: Global, source: &mut R, device: D) -> Run<D>
-    requires pages { LOG_PAGES ≤ D.pages device }
+    requires least { LEAST_PAGES ≤ D.pages device }
+    requires most { D.pages device ≤ MOST_PAGES }
     ensures cause { IsCause (Some tasks.serial) (R.fault_count source.old) (R.fault_count source.new) (R.left source.old) (device_of D.pages D.clock D.fault_count D.story device) (device_of D.pages D.clock D.fault_count D.story result.device) result.acks.items (ending_of result.ending) }
     ensures plain { IsPlain (ending_of result.ending) }
 {
@@ -165,7 +170,8 @@ fn run_fresh<R: Source, D: Device>(
     source: &mut R,
     device: D,
 ) -> Run<D>
-    requires pages { LOG_PAGES ≤ D.pages device }
+    requires least { LEAST_PAGES ≤ D.pages device }
+    requires most { D.pages device ≤ MOST_PAGES }
     ensures cause { IsCause (Some (tasks.fresh indexes)) (R.fault_count source.old) (R.fault_count source.new) (R.left source.old) (device_of D.pages D.clock D.fault_count D.story device) (device_of D.pages D.clock D.fault_count D.story result.device) result.acks.items (ending_of result.ending) }
     ensures plain { IsPlain (ending_of result.ending) }
 {
@@ -182,7 +188,8 @@ pub(crate) fn run_task<R: Source, D: Device>(
     source: &mut R,
     device: D,
 ) -> Run<D>
-    requires pages { LOG_PAGES ≤ D.pages device }
+    requires least { LEAST_PAGES ≤ D.pages device }
+    requires most { D.pages device ≤ MOST_PAGES }
     ensures cause { IsCause (option_map task_as task) (R.fault_count source.old) (R.fault_count source.new) (R.left source.old) (device_of D.pages D.clock D.fault_count D.story device) (device_of D.pages D.clock D.fault_count D.story result.device) result.acks.items (ending_of result.ending) }
     ensures plain { IsPlain (ending_of result.ending) }
 {

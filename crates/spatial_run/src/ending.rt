@@ -12,7 +12,7 @@ use crate::record::RunRecord;
 use dev_model::{Failed, Sink, send_all};
 use itoa::Buffer;
 use script_lang::Script;
-use store_core::OpenFault;
+use store_opening::OpenFault;
 
 #[derive(Drop)]
 pub(crate) enum Ending {

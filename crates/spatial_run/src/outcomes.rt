@@ -17,7 +17,7 @@ fn print_answered<K: Sink>(out: &mut K, place: u64, outcome: &Outcome) -> Result
 {
     match outcome {
         Outcome::Answered { answer, .. } => print_answer(out, place, 0, answer),
-        Outcome::Refused(_) => Ok(()),
+        Outcome::Quiet | Outcome::Refused(_) => Ok(()),
     }
 }
 
@@ -28,7 +28,7 @@ fn next_place(place: u64, outcome: &Outcome) -> u64
 {
     match outcome {
         Outcome::Answered { .. } => place + 1,
-        Outcome::Refused(_) => place,
+        Outcome::Quiet | Outcome::Refused(_) => place,
     }
 }
 
@@ -52,7 +52,7 @@ fn print_refusal<K: Sink>(out: &mut K, outcome: &Outcome) -> Result<(), Failed>
 {
     match outcome {
         Outcome::Refused(why) => print_refused(out, 0, *why),
-        Outcome::Answered { .. } => Ok(()),
+        Outcome::Answered { .. } | Outcome::Quiet => Ok(()),
     }
 }
 

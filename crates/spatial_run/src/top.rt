@@ -1,6 +1,6 @@
 // The top calls: what the program does with its words, its script, its output and its device.
 ghost use Rattle.std.specs.Prelude.{◌≤◌, Some, map};
-ghost use Rattle.image_model.specs.declared.places.TheConstants.{LOG_PAGES};
+ghost use Rattle.space_map.specs.declared.space.TheConstants.{LEAST_PAGES, MOST_PAGES};
 ghost use Rattle.store_core.specs.Stores.{device_of};
 ghost use Rattle.spatial_run.specs.Tasks.{task_of, serial};
 ghost use Rattle.spatial_run.specs.Endings.{Ends};
@@ -21,7 +21,8 @@ pub fn run_serial<R: Source, K: Sink, D: Device>(
     out: &mut K,
     device: D,
 ) -> Ended<D>
-    requires pages { LOG_PAGES ≤ D.pages device }
+    requires least { LEAST_PAGES ≤ D.pages device }
+    requires most { D.pages device ≤ MOST_PAGES }
     ensures headline { Ends (Some serial) (record {
       source_old = R.fault_count script.old;
       source_new = R.fault_count script.new;
@@ -53,7 +54,8 @@ pub fn run_top<R: Source, K: Sink, D: Device>(
     out: &mut K,
     device: D,
 ) -> Ended<D>
-    requires pages { LOG_PAGES ≤ D.pages device }
+    requires least { LEAST_PAGES ≤ D.pages device }
+    requires most { D.pages device ≤ MOST_PAGES }
     // What is printed is one history of a plain table, each command answered as the table answers at that place; a crash at any
     // moment leaves the table after the first of the writes, with every acknowledged one; and each ending and status has its
     // cause.

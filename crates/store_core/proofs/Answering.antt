@@ -1,93 +1,136 @@
--- Events without a device call.
-use Rattle.std.proofs.Common.{◌≡◌, ℕ, ◌-◌, Bool, true, false, [], length, Option, Some, None, IfSome, Ok, Err, refl, sym, ◌∙◌, ap, subst}
-use Rattle.std.specs.Option.{option_map}
-use Rattle.std.proofs.lemmas.Option.{same_Some}
-use Rattle.std.specs.FinMap as finite
-use Rattle.dev_model.specs.Counts.{next_count}
-use Rattle.geo_base.specs.Corners.{Corners}
-use Rattle.geo_base.specs.Indexes.{has_index}
+-- The events of calls that answer from memory, or from pages that were read.
+use Rattle.std.proofs.Common.{◌≡◌, ℕ, ◌≤◌, Bool, true, false, List, Option, Some, Ok, Err, Result, MatchResult, is_some, ◌+◌, ◌-◌, length, refl, sym, ◌∙◌, ap, subst, arith}
+use Rattle.dev_model.specs.Counts.{Rose, next_count}
+use Rattle.dev_model.specs.Story.{Story, WhereTold, clock_of}
 use Rattle.geo_base.specs.declared.points.Row.{Row}
-use Rattle.geo_base.specs.declared.points.IndexKind.{IndexKind}
-use Rattle.table_model.specs.Table.{Table, place_of, rows_of, rows_inside}
-use Rattle.store_machine.specs.Machine.{Machine, does}
-use Rattle.store_machine.specs.Needs.{NeedsLook, Needs}
-use Rattle.store_machine.specs.Runs.{is_fault, MakesCalls}
-use Rattle.store_machine.specs.Standing.{StoreState, Has, Makes}
-use Rattle.store_machine.specs.Laws.Steps.{still}
-use Rattle.store_machine.specs.declared.events.Got.{Got}
+use Rattle.page_codec.specs.declared.faults.PageFault.{PageFault}
+use Rattle.page_codec.specs.declared.faults.PageFault.TheVariants as page
+use Rattle.primary_ix.specs.Wanted.{table_row}
+use Rattle.table_model.specs.Table.{Table}
+use Rattle.wal_log.specs.declared.log.Log.{Log}
+use Rattle.store_state.specs.Lists.{Lists, placed_up_to}
+use Rattle.tree_shape.specs.Asked.{reads_of}
+use Rattle.device_pages.specs.Asked.{calls_of}
+use Rattle.kept_state.specs.Reading.{IsLegible, HasRead, IsOnlyRead}
+use Rattle.store_machine.specs.Standing.{DeviceState, StoreState, Makes}
 use Rattle.store_machine.specs.declared.events.Look.{Look}
-use Rattle.store_machine.specs.declared.events.Found.{Found}
-use Rattle.store_machine.specs.declared.events.Refusal.TheVariants.{NoIndex, OutOfMemory}
-use Rattle.store_machine.specs.declared.events.Action.{Action}
-use Rattle.store_machine.specs.declared.events.Action.TheVariants as action
+use Rattle.store_machine.specs.declared.events.Refusal.TheVariants.{Fault, Damaged}
+use Rattle.store_machine.specs.Laws.Events.{still-event, stays-go_on, reads-event}
+use Rattle.store_machine.specs.Runs.{way_to}
+use Rattle.store_machine.specs.Laws.Reading.{GoesOnWay, HasOnlyRead, seen_of}
+use Rattle.store_machine.specs.declared.events.Action.TheVariants.{Get, Count, Look as Looked}
+use Rattle.store_core.specs.Refusals.{refusal_of}
 
--- the state after an answer
-abbrev answered : StoreState → StoreState
-answered old = record old { seq = next_count old.seq }
+-- the number of rows
+pub counted : (old : StoreState) (owner rows : ℕ) → rows ≡ old.lists.rows → Makes old (record old { seq = next_count old.seq }) owner (Count old.seq rows)
+counted old owner rows is =
+    still-event old old.lists (next_count old.seq) owner (Count old.seq rows)
+    (record {
+      needs = λ known o m has tells. (has.seq, is ∙ ap (λ (l : _). l.rows) has.lists, λ is_known. is ∙ (tells is_known).rows);
+      owned = tt;
+      acks = tt;
+      stops = refl;
+      faults = omega arith;
+      cause = λ fault. absurd (let no : true ≡ false = sym fault in cc);
+      time = omega arith;
+    })
+    (λ m has i. record m { seq = next_count (sym has.seq i); log = sym has.log i; lists = sym has.lists i; table = m.table })
+    refl (λ m. refl)
+    (stays-go_on old (next_count old.seq))
 
-drawn : (old : StoreState) (m : Machine) → Has old m → record m { seq = next_count m.seq } ≡ record m { seq = next_count old.seq }
-drawn old m has = ap (λ (n : ℕ). record m { seq = next_count n }) (sym has.seq)
+-- what is said of one read of a row
+pub record ReadsRow (old : StoreState) (now : DeviceState) (key : ℕ) (result : Result (Option Row) PageFault) (pages : List ℕ) : Type 0 where
+  pub reads : HasOnlyRead old now (way_to key) result pages
+  pub row : (table : Table) → WhereTold old.device.story (λ s. IsLegible table old.lists s → MatchResult result (λ row. row ≡ table_row table key) (λ fault. fault ≡ page.Failed))
+  pub time : old.device.clock ≤ now.clock
 
-pub counted : (old new : StoreState) (owner seq rows : ℕ) → new ≡ answered old → seq ≡ old.seq → rows ≡ length (rows_of old.table) → Makes old new owner (action.Count seq rows)
-counted old new owner seq rows is seq_is rows_is =
-    subst (λ (s : StoreState). Makes old s owner (action.Count seq rows)) (sym is)
-    (still old (next_count old.seq) owner (action.Count seq rows) (λ t. t) (λ m has. drawn old m has) (λ o m tells. refl) refl (λ m. refl)
-    (λ known o m has tells. (seq_is ∙ has.seq, λ is_known. rows_is ∙ ap (λ (t : Table). length (rows_of t)) (tells is_known).table)))
+-- what a call that reads a row shows
+pub reads-row : (old : StoreState) (now : DeviceState) (key : ℕ) (result : Result (Option Row) PageFault) (pages : List ℕ) → HasRead old.lists (seen_of old.device) (seen_of now) result pages
+    → GoesOnWay old (way_to key) result pages
+    → WhereTold old.device.story (λ s. IsOnlyRead old.device.pages old.lists s now.story) → now.pages ≡ old.device.pages → old.device.faults ≤ now.faults
+    → ((s : Story) → now.story ≡ Some s → now.clock ≡ clock_of s)
+    → ((table : Table) → WhereTold old.device.story (λ s. IsLegible table old.lists s → MatchResult result (λ row. row ≡ table_row table key) (λ fault. fault ≡ page.Failed)))
+    → ReadsRow old now key result pages
+reads-row old now key result pages read by stays same_pages later clock_told row = record {
+  reads = record { read = read; by = by; stays = stays; same_pages = same_pages; later = later; clock_told = clock_told };
+  row = row;
+  time = let clock : now.clock ≡ old.device.clock + length (calls_of old.device.clock (reads_of result pages)) = read.went.asked_for.clock in omega (arith, clock);
+}
 
-pub got : (old new : StoreState) (owner key : ℕ) (answer : Got) → new ≡ answered old → answer.seq ≡ old.seq
-    → ((row : Row) → answer.row ≡ Some row → row.key ≡ key) → option_map place_of answer.row ≡ finite.get old.table key → Makes old new owner (action.Get key (Ok answer))
-got old new owner key answer is seq_is key_is row_is =
-    subst (λ (s : StoreState). Makes old s owner (action.Get key (Ok answer))) (sym is)
-    (still old (next_count old.seq) owner (action.Get key (Ok answer)) (λ t. t) (λ m has. drawn old m has) (λ o m tells. refl) refl (λ m. refl)
-    (λ known o m has tells. record {
-      seq = seq_is ∙ has.seq;
-      key_is = key_is;
-      row = λ is_known. row_is ∙ ap (λ (t : Table). finite.get t key) (tells is_known).table;
-    }))
+pub got : (old : StoreState) (now : DeviceState) (owner key : ℕ) (row : Option Row) (pages : List ℕ) → ReadsRow old now key (Ok row) pages
+    → Makes old (record old { device = now; seq = next_count old.seq }) owner (Get key (Ok (record { seq = old.seq; row = row })))
+got old now owner key row pages is =
+    reads-event old now (way_to key) (Ok row) pages (next_count old.seq) owner (Get key (Ok (record { seq = old.seq; row = row }))) is.reads
+    (record {
+      needs = λ known o m has tells. record { seq = has.seq; row = λ is_known. let t : _ = tells is_known in is.row m.table t.now t.told t.legible };
+      owned = tt;
+      acks = tt;
+      stops = refl;
+      faults = is.reads.later;
+      cause = λ fault. absurd (let no : true ≡ false = sym fault in cc);
+      time = is.time;
+    })
+    (λ m has i. record m { seq = next_count (sym has.seq i); log = sym has.log i; lists = sym has.lists i; table = m.table })
+    refl (λ m calls are. are)
 
--- a call that draws no number and changes nothing
-pub nothing : (s : StoreState) (owner : ℕ) (a : Action) → ((m : Machine) → does a m ≡ m) → is_fault a ≡ false → ((m : Machine) → MakesCalls m a [])
-    → ((m : Machine) → Has s m → Needs true m a × Needs false m a) → Makes s s owner a
-nothing s owner a same no_fault none needs =
-    still s s.seq owner a (λ t. t) (λ m has. same m ∙ ap (λ (n : ℕ). record m { seq = n }) (sym has.seq)) (λ o m tells. refl) no_fault none
-    (λ known o m has tells. by_known known m (needs m has))
-  where
-    by_known : (known : Bool) (m : Machine) → Needs true m a × Needs false m a → Needs known m a
-    by_known true m both = both.0
-    by_known false m both = both.1
+-- a page of a store that was opened from what was on the disk is what its place asks for
+pub known-sound : (known : Bool) → (known ≡ true → ⊥) → known ≡ false
+known-sound true never = absurd (never refl)
+known-sound false never = refl
 
-pub looked : (s : StoreState) (owner : ℕ) (look : Look) → look.ops ≡ s.log.records → look.frozen ≡ false → look.lanes ≡ 0 → look.placed ≡ 0 → look.lsn ≡ s.log.next_lsn - 1 → Makes s s owner (action.Look look)
-looked s owner look ops frozen lanes placed lsn =
-    nothing s owner (action.Look look) (λ m. refl) refl (λ m. refl) (λ m has. (needs m has, needs m has))
-  where
-    needs : (m : Machine) → Has s m → NeedsLook m look
-    needs m has = record { ops = ops ∙ has.operations; frozen = frozen; lanes = lanes; placed = placed; lsn = lsn ∙ ap (λ (n : ℕ). n - 1) has.next_lsn }
+pub got-refused : (old : StoreState) (now : DeviceState) (owner key : ℕ) (fault : PageFault) (pages : List ℕ) → ReadsRow old now key (Err fault) pages
+    → (fault ≡ page.Failed → Rose old.device.faults now.faults) → (fault ≡ page.OutOfMemory → ⊥)
+    → Makes old (record old { device = now }) owner (Get key (Err (refusal_of fault)))
+got-refused old now owner key page.Failed pages is rose memory =
+    reads-event old now (way_to key) (Err page.Failed) pages old.seq owner (Get key (Err Fault)) is.reads
+    (record { needs = λ known o m has tells. tt; owned = tt; acks = tt; stops = refl; faults = is.reads.later; cause = λ _. rose refl; time = is.time })
+    (λ m has i. record m { seq = sym has.seq i; log = sym has.log i; lists = sym has.lists i; table = m.table })
+    refl (λ m calls are. are)
+got-refused old now owner key (page.Damaged n) pages is rose memory =
+    reads-event old now (way_to key) (Err (page.Damaged n)) pages old.seq owner (Get key (Err (Damaged n))) is.reads
+    (record {
+      needs = λ known o m has tells. known-sound known (λ is_known. let t : _ = tells is_known in let e : page.Damaged n ≡ page.Failed = is.row m.table t.now t.told t.legible in cc);
+      owned = tt;
+      acks = tt;
+      stops = refl;
+      faults = is.reads.later;
+      cause = λ fault. absurd (let no : true ≡ false = sym fault in cc);
+      time = is.time;
+    })
+    (λ m has i. record m { seq = sym has.seq i; log = sym has.log i; lists = sym has.lists i; table = m.table })
+    refl (λ m calls are. are)
+got-refused old now owner key page.OutOfMemory pages is rose memory = absurd (memory refl)
 
-pub found : (old new : StoreState) (owner : ℕ) (kind : IndexKind) (rect : Corners) (answer : Found) → new ≡ answered old → has_index old.declared kind ≡ true → answer.seq ≡ old.seq
-    → answer.rows ≡ rows_inside rect (rows_of old.table) → Makes old new owner (action.Region kind rect (Ok answer))
-found old new owner kind rect answer is declared seq_is rows_is =
-    subst (λ (s : StoreState). Makes old s owner (action.Region kind rect (Ok answer))) (sym is)
-    (still old (next_count old.seq) owner (action.Region kind rect (Ok answer)) (λ t. t) (λ m has. drawn old m has) (λ o m tells. refl) refl (λ m. refl)
-    (λ known o m has tells. record {
-      declared = ap (λ (d : ℕ). has_index d kind) (sym has.declared) ∙ declared;
-      seq = seq_is ∙ has.seq;
-      rows = λ is_known. rows_is ∙ ap (λ (t : Table). rows_inside rect (rows_of t)) (tells is_known).table;
-    }))
+-- what a store tells of itself
+pub looked : (old : StoreState) (owner : ℕ) (look : Look) → look.ops ≡ old.log.records → look.frozen ≡ is_some old.lists.frozen → look.lanes ≡ 0 → look.placed ≡ placed_up_to old.lists.components
+    → look.lsn ≡ old.log.next_lsn - 1 → Makes old old owner (Looked look)
+looked old owner look ops frozen lanes placed lsn =
+    still-event old old.lists old.seq owner (Looked look)
+    (record {
+      needs = λ known o m has tells. record {
+        ops = ops ∙ ap (λ (l : Log). l.records) has.log;
+        frozen = frozen ∙ ap (λ (l : Lists). is_some l.frozen) has.lists;
+        lanes = lanes;
+        placed = placed ∙ ap (λ (l : Lists). placed_up_to l.components) has.lists;
+        lsn = lsn ∙ ap (λ (l : Log). l.next_lsn - 1) has.log;
+      };
+      owned = tt;
+      acks = tt;
+      stops = refl;
+      faults = omega arith;
+      cause = λ fault. absurd (let no : true ≡ false = sym fault in cc);
+      time = omega arith;
+    })
+    (λ m has i. record m { seq = sym has.seq i; log = sym has.log i; lists = sym has.lists i; table = m.table })
+    refl (λ m. refl)
+    (stays-go_on old old.seq)
 
-pub no_index : (s : StoreState) (owner : ℕ) (kind : IndexKind) (rect : Corners) → has_index s.declared kind ≡ false → Makes s s owner (action.Region kind rect (Err NoIndex))
-no_index s owner kind rect declared =
-    nothing s owner (action.Region kind rect (Err NoIndex)) (λ m. refl) refl (λ m. refl) (λ m has. (needs m has, needs m has))
-  where
-    needs : (m : Machine) → Has s m → has_index m.declared kind ≡ false
-    needs m has = ap (λ (d : ℕ). has_index d kind) (sym has.declared) ∙ declared
+pub counted-as : (old new : StoreState) (owner seq rows : ℕ) → seq ≡ old.seq → new ≡ record old { seq = next_count old.seq } → rows ≡ old.lists.rows → Makes old new owner (Count seq rows)
+counted-as old new owner seq rows seq_is new_is is =
+    subst (λ (n : ℕ). Makes old new owner (Count n rows)) (sym seq_is) (subst (λ (s : StoreState). Makes old s owner (Count old.seq rows)) (sym new_is) (counted old owner rows is))
 
-pub no_memory : (s : StoreState) (owner : ℕ) (kind : IndexKind) (rect : Corners) → has_index s.declared kind ≡ true → Makes s s owner (action.Region kind rect (Err OutOfMemory))
-no_memory s owner kind rect declared =
-    nothing s owner (action.Region kind rect (Err OutOfMemory)) (λ m. refl) refl (λ m. refl) (λ m has. (needs m has, needs m has))
-  where
-    needs : (m : Machine) → Has s m → has_index m.declared kind ≡ true
-    needs m has = ap (λ (d : ℕ). has_index d kind) (sym has.declared) ∙ declared
-
-pub if_some : (o : Option Row) (row : Row) (key : ℕ) → IfSome o (λ r. r.key ≡ key) → o ≡ Some row → row.key ≡ key
-if_some None row key all is = absurd (let no : ◌≡◌ {A = Option Row} None (Some row) = is in cc)
-if_some (Some r) row key all is = ap (λ (x : Row). x.key) (sym (same_Some _ _ is)) ∙ all
+pub got-as : (old new : StoreState) (now : DeviceState) (owner key seq : ℕ) (row : Option Row) (pages : List ℕ) → seq ≡ old.seq → new ≡ record old { device = now; seq = next_count old.seq } → ReadsRow old now key (Ok row) pages
+    → Makes old new owner (Get key (Ok (record { seq = seq; row = row })))
+got-as old new now owner key seq row pages seq_is new_is is =
+    subst (λ (n : ℕ). Makes old new owner (Get key (Ok (record { seq = n; row = row })))) (sym seq_is)
+    (subst (λ (s : StoreState). Makes old s owner (Get key (Ok (record { seq = old.seq; row = row })))) (sym new_is) (got old now owner key row pages is))

@@ -1,7 +1,5 @@
-pub mod Entries
-pub mod Answering
-pub mod WriteEvents
-pub mod SuperblockRead
-pub mod DirectoryRead
-pub mod Replaying
-pub mod OpeningRead
+mod Answering
+mod Found
+mod Regions
+mod WorkEvents
+mod WriteEvents

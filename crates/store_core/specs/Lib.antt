@@ -1,6 +1,5 @@
-pub mod Entries
-pub mod Logging
-pub mod Openings
-pub mod Read
-pub mod Restored
+pub mod Begun
+pub mod Refusals
+pub mod Regions
 pub mod Stores
+pub mod Writing

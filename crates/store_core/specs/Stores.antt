@@ -1,11 +1,8 @@
 -- What there is to see of a store on a device.
-use Rattle.std.specs.Prelude.{ℕ, Option, Result, Ok, Err}
+use Rattle.std.specs.Prelude.{ℕ, Option}
 use Rattle.dev_model.specs.Story.{Story}
 use Rattle.store_machine.specs.Standing.{DeviceState, StoreState}
-use Rattle.store_machine.specs.declared.events.Found.{Found}
-use Rattle.store_machine.specs.declared.events.Refusal.{Refusal}
 use Rattle.store_core.specs.declared.store.Store.{Store}
-use Rattle.store_core.specs.declared.region.RegionRows.{RegionRows}
 
 abbrev pub device_of : {D : Type 0} → (D → ℕ) → (D → ℕ) → (D → ℕ) → (D → Option Story) → D → DeviceState
 device_of pages clock faults story device = record { pages = pages device; clock = clock device; faults = faults device; story = story device }
@@ -14,7 +11,7 @@ abbrev pub state_of : {D : Type 0} → (D → ℕ) → (D → ℕ) → (D → �
 state_of pages clock faults story store = record {
   device = device_of pages clock faults story store.device;
   declared = store.indexes;
-  table = store.rows;
+  lists = store.state.0;
   seq = store.seq;
   stopped = store.stopped;
   log = store.log;
@@ -22,8 +19,3 @@ state_of pages clock faults story store = record {
   opened_at = store.opened_at;
   opened_faults = store.opened_faults;
 }
-
--- what a region answered
-abbrev pub found_of : Result RegionRows Refusal → Result Found Refusal
-found_of (Ok answer) = Ok (record { seq = answer.seq; rows = answer.rows.items })
-found_of (Err refusal) = Err refusal

@@ -1,17 +1,19 @@
-//! A store on a device, which logs each write before it answers.
+//! A store on a device that logs each write before it answers, and flushes its rows into components.
 #![tactic(auto)]
 
-mod directory;
+mod flushing;
 mod opening;
+mod reading;
 mod region;
-mod rows;
 mod store;
-mod superblock;
 mod writing;
 
-pub use opening::OpenFault;
 pub use region::RegionRows;
 pub use store::Store;
 
+#[cfg(test)]
+mod flush_tests;
+#[cfg(test)]
+mod test_steps;
 #[cfg(test)]
 mod tests;

@@ -1,13 +1,20 @@
 // The rows inside a rectangle.
-ghost use Rattle.std.specs.Prelude.{◌≡◌};
+ghost use Rattle.std.specs.Prelude.{◌≡◌, ◌++◌, IfOk, OnOk};
+ghost use Rattle.std.specs.Option.{option_to_list};
+ghost use Rattle.table_model.specs.Table.{rows_inside};
+ghost use Rattle.primary_ix.specs.Wanted.{record_in};
 ghost use Rattle.store_machine.specs.Standing.{IsReady, Makes};
 ghost use Rattle.store_machine.specs.declared.events.Action.{Action};
-ghost use Rattle.store_core.specs.Stores.{state_of, found_of};
+ghost use Rattle.store_core.specs.Regions.{records_in, found_of};
+ghost use Rattle.store_core.specs.Stores.{state_of};
 
+use crate::reading::refused;
 use crate::store::Store;
 use dev_model::Device;
 use geo_base::{IndexKind, ItemList, Rect, Row};
-use std::alloc::Global;
+use kept_state::read_rows;
+use primary_ix::PrimRow;
+use std::alloc::{AllocError, Global};
 use store_machine::Refusal;
 
 /// What an answered region tells.
@@ -19,9 +26,34 @@ pub struct RegionRows {
     pub rows: ItemList<Row>,
 }
 
+// Adds the record of a row, if it has one that is inside.
+fn add_inside(list: &mut ItemList<Row>, row: &PrimRow, rect: &Rect) -> Result<(), AllocError>
+    ensures { OnOk result (list.new.items ≡ list.old.items ++ rows_inside rect.now (option_to_list (record_in row.now))) }
+{
+    if let Some(record) = row.row() {
+        if rect.inside(record.point) {
+            list.reserve(1)?;
+            list.add(record);
+        }
+    }
+    Ok(())
+}
+
+// The records of the rows that are inside.
+fn inside(alloc: Global, rows: &[PrimRow], rect: &Rect) -> Result<ItemList<Row>, AllocError>
+    ensures { IfOk result (λ list. list.items ≡ rows_inside rect.now (records_in rows.now)) }
+{
+    let mut list = ItemList::new(alloc);
+    for row in rows {
+        add_inside(&mut list, row, rect)?;
+    }
+    Ok(list)
+}
+
 impl<D: Device> Store<D> {
-    /// The rows whose points are in the rectangle, edges included. `NoIndex` exactly where the index isn't declared. Until there
-    /// are components the rows in memory are looked through.
+    /// The rows whose points are in the rectangle, edges included. `NoIndex` exactly where the index isn't declared. Until the
+    /// indexes have components of their own, all rows are looked through. `Fault` where a page could not be read, and `Damaged`
+    /// where a page that was read is none for its place, which doesn't come where the store was opened from what was on the disk.
     pub fn region(
         &mut self,
         alloc: Global,
@@ -29,13 +61,18 @@ impl<D: Device> Store<D> {
         kind: IndexKind,
         rect: &Rect,
     ) -> Result<RegionRows, Refusal>
+        requires ready { IsReady (state_of D.pages D.clock D.fault_count D.story self.old) }
         ensures event { Makes (state_of D.pages D.clock D.fault_count D.story self.old) (state_of D.pages D.clock D.fault_count D.story self.new) owner (Action.Region kind rect.now (found_of result)) }
-        ensures ready { IsReady (state_of D.pages D.clock D.fault_count D.story self.old) → IsReady (state_of D.pages D.clock D.fault_count D.story self.new) }
+        ensures ready { IsReady (state_of D.pages D.clock D.fault_count D.story self.new) }
     {
         if !self.indexes.has(kind) {
             return Err(Refusal::NoIndex);
         }
-        match self.rows.region(alloc, rect) {
+        let rows = match read_rows(alloc, &mut self.device, &self.state) {
+            Ok(rows) => rows,
+            Err(fault) => return Err(refused(fault)),
+        };
+        match inside(alloc, &rows, rect) {
             Ok(rows) => {
                 let seq = self.draw();
                 Ok(RegionRows { seq, rows })

@@ -1,45 +1,68 @@
 // Writes: each is logged before it is answered.
-ghost use Rattle.std.specs.Prelude.{◌≡◌, ◌<◌, IfOk, IfErr, OnOk, OnErr, IsSome, ℕ};
+ghost use Rattle.std.specs.Prelude.{◌≡◌, ◌<◌, ◌≤◌, IfOk, IfErr, OnOk, OnErr, ℕ, None, true, is_some};
 ghost use Rattle.std.specs.Option.{option_map};
-ghost use Rattle.std.specs.FinMap as finite;
 ghost use Rattle.dev_model.specs.Counts.{next_count};
-ghost use Rattle.table_model.specs.Table.{place_of};
-ghost use Rattle.wal_log.specs.Records.{HasOld};
-ghost use Rattle.wal_log.specs.declared.records.LogOp.TheVariants as logged;
-ghost use Rattle.store_machine.specs.Standing.{IsReady, Makes};
-ghost use Rattle.store_machine.specs.Laws.Logging.{CanWrite};
+ghost use Rattle.dev_model.specs.Story.{WhereTold};
+ghost use Rattle.table_model.specs.Table.{Table};
+ghost use Rattle.wal_log.specs.Records.{key_of};
+ghost use Rattle.component_image.specs.Told.{SaysOld};
+ghost use Rattle.kept_state.specs.Reading.{IsLegible};
+ghost use Rattle.kept_state.specs.Writing.{next_record};
+ghost use Rattle.store_machine.specs.Standing.{StoreState, IsReady, Makes};
 ghost use Rattle.store_machine.specs.declared.events.Action.{Action};
-ghost use Rattle.store_machine.specs.declared.events.Refusal.TheVariants.{Fault};
-ghost use Rattle.store_core.specs.Entries.{place_in};
-ghost use Rattle.store_core.specs.Restored.{restored};
 ghost use Rattle.store_core.specs.Stores.{state_of};
-ghost use Rattle.store_core.specs.Logging.{RefusesNow, Logged, LogFails, WasLogged, WasNotLogged};
+ghost use Rattle.store_core.specs.Writing.{CanWrite, RefusesNow, Logged, IsNotLogged, WasRead, has_to_log, matter_of, old_point};
 
+use crate::reading::refused;
 use crate::store::Store;
 use dev_model::{Device, Failed};
 use geo_base::{Note, Point, Row};
+use kept_state::{log_write, read_row};
 use std::alloc::AllocError;
 use store_machine::{Refusal, WriteOp, Wrote};
-use wal_log::{LogOp, MOST_RECORDS, Record};
+use wal_log::{LogOp, MOST_RECORDS};
 
 // The numbers of writes end below it.
 const LSN_END: u64 = 1 << 62;
 
-// The point of what stood at a key.
-fn point_of(old: &Option<(Point, Note)>) -> Option<Point>
-    ensures { result ≡ option_map (λ place. place.0) old.now }
+// The key of a write.
+fn key_of(op: &WriteOp) -> u64
+    ensures { result ≡ key_of op.now }
 {
-    match old {
-        Some((point, _)) => Some(*point),
+    match op {
+        LogOp::Put(row) => row.key,
+        LogOp::Del(key) => *key,
+    }
+}
+
+// The point of a row.
+fn old_point(row: &Option<Row>) -> Option<Point>
+    ensures { result ≡ old_point row.now }
+{
+    match row {
+        Some(row) => Some(row.point),
         None => None,
     }
 }
 
-// The write that lays a row.
-fn laid(row: &Row) -> WriteOp
-    ensures { result ≡ logged.Put row.now }
+// A row without its key.
+fn matter_of(row: &Option<Row>) -> Option<(Point, Note)>
+    ensures { result ≡ option_map matter_of row.now }
 {
-    LogOp::Put(*row)
+    match row {
+        Some(row) => Some((row.point, row.note)),
+        None => None,
+    }
+}
+
+// Whether a write has something to log: a delete of a key where nothing stands has nothing.
+fn has_to_log(op: &WriteOp, row: &Option<Row>) -> bool
+    ensures { result ≡ has_to_log op.now (is_some row.now) }
+{
+    match op {
+        LogOp::Put(_) => true,
+        LogOp::Del(_) => row.is_some(),
+    }
 }
 
 impl<D: Device> Store<D> {
@@ -66,25 +89,36 @@ impl<D: Device> Store<D> {
         Ok(())
     }
 
-    // Logs a write. Where the device fails, the store is stopped.
-    fn log_write(&mut self, op: LogOp, old_point: Option<Point>) -> Result<u64, Failed>
+    // Takes all memory of a write: there is room for its row and for its ack.
+    fn make_room(&mut self) -> Result<(), AllocError>
+        ensures same { state_of D.pages D.clock D.fault_count D.story self.new ≡ state_of D.pages D.clock D.fault_count D.story self.old }
+        ensures acks { OnOk result (0 < self.new.acks.spare) }
+        ensures rows { OnOk result (1 ≤ self.new.state.1) }
+    {
+        self.acks.reserve(1)?;
+        self.state.reserve()
+    }
+
+    // Logs a write of a key where this row stood, and lays its row in memory. Where the device fails, the store is stopped.
+    fn log_op(&mut self, op: &WriteOp, row: &Option<Row>) -> Result<u64, Failed>
         requires ready { IsReady (state_of D.pages D.clock D.fault_count D.story self.old) }
         requires can { CanWrite (state_of D.pages D.clock D.fault_count D.story self.old) }
         requires room { 0 < self.old.acks.spare }
-        requires has_old { HasOld op old_point }
-        ensures logged { IfOk result (Logged (state_of D.pages D.clock D.fault_count D.story self.old) (state_of D.pages D.clock D.fault_count D.story self.new) op) }
-        ensures fails { OnErr result (LogFails (state_of D.pages D.clock D.fault_count D.story self.old) (state_of D.pages D.clock D.fault_count D.story self.new) op) }
+        requires room_in_memory { 1 ≤ self.old.state.1 }
+        requires logs { has_to_log op.now (is_some row.now) ≡ true }
+        requires says { (table : Table) → WhereTold (D.story self.old.device) (λ s. IsLegible table self.old.state.0 s → SaysOld table (next_record self.old.log op.now (old_point row.now))) }
+        ensures logged { IfOk result (Logged (state_of D.pages D.clock D.fault_count D.story self.old) (state_of D.pages D.clock D.fault_count D.story self.new) op.now row.now) }
+        ensures fails { OnErr result (IsNotLogged (state_of D.pages D.clock D.fault_count D.story self.old) (state_of D.pages D.clock D.fault_count D.story self.new) op.now row.now) }
         ensures ready { IsReady (state_of D.pages D.clock D.fault_count D.story self.new) }
     {
-        let mut log = self.log;
-        let record = Record {
-            lsn: log.next_lsn,
+        match log_write(
+            &mut self.device,
+            &mut self.log,
+            &mut self.state,
             op,
-            old_point,
-        };
-        match log.append(&mut self.device, &record) {
+            old_point(row),
+        ) {
             Ok(ack) => {
-                self.log = log;
                 self.acks.add(ack);
                 Ok(ack)
             }
@@ -95,88 +129,40 @@ impl<D: Device> Store<D> {
         }
     }
 
-    // What an answered write that was logged tells.
-    fn wrote(&mut self, old: Option<(Point, Note)>, ack: u64) -> Wrote
+    // What a delete tells where nothing stood at the key.
+    fn nothing_there(&mut self) -> Wrote
         requires ready { IsReady (state_of D.pages D.clock D.fault_count D.story self.old) }
-        ensures wrote { result ≡ record { seq = self.old.seq; old = old; ops = self.old.log.records; ack = ack } }
+        ensures wrote { result ≡ record { seq = self.old.seq; old = None; ops = self.old.log.records; ack = 0 } }
         ensures rest { self.new ≡ record self.old { seq = next_count self.old.seq } }
     {
         Wrote {
             seq: self.draw(),
-            old,
+            old: None,
             ops: self.log.records as u32,
-            ack,
+            ack: 0,
         }
     }
 
-    // Takes all memory of a put: the row is laid in memory, and there is room for its ack. It answers what stood at the key.
-    fn lay(&mut self, row: &Row) -> Result<Option<(Point, Note)>, AllocError>
-        ensures laid { OnOk result (state_of D.pages D.clock D.fault_count D.story self.new ≡ record (state_of D.pages D.clock D.fault_count D.story self.old) { table = finite.insert self.old.rows row.now.key (place_of row.now) }) }
-        ensures old { IfOk result (λ old. option_map place_in old ≡ finite.get self.old.rows row.now.key) }
-        ensures room { OnOk result (0 < self.new.acks.spare) }
-        ensures refused { OnErr result (state_of D.pages D.clock D.fault_count D.story self.new ≡ state_of D.pages D.clock D.fault_count D.story self.old) }
-    {
-        self.acks.reserve(1)?;
-        self.rows.put(row)
-    }
-
-    // Logs a put whose row is laid in memory. Where the log fails, what stood at the key is put back.
-    fn log_put(&mut self, row: &Row, old: Option<(Point, Note)>) -> Result<Wrote, Refusal>
+    // Logs and answers a write of a key where this row stood.
+    fn write_over(&mut self, op: &WriteOp, row: &Option<Row>) -> Result<Wrote, Refusal>
         requires ready { IsReady (state_of D.pages D.clock D.fault_count D.story self.old) }
         requires can { CanWrite (state_of D.pages D.clock D.fault_count D.story self.old) }
         requires room { 0 < self.old.acks.spare }
-        requires there { IsSome (finite.get self.old.rows row.now.key) }
-        ensures wrote { IfOk result (WasLogged (state_of D.pages D.clock D.fault_count D.story self.old) (state_of D.pages D.clock D.fault_count D.story self.new) (logged.Put row.now) old) }
-        ensures fails { OnErr result (WasNotLogged (state_of D.pages D.clock D.fault_count D.story self.old) (state_of D.pages D.clock D.fault_count D.story self.new) (logged.Put row.now) (restored self.old.rows row.now.key (option_map place_in old))) }
-        ensures fault { IfErr result (λ refusal. refusal ≡ Fault) }
+        requires room_in_memory { 1 ≤ self.old.state.1 }
+        requires logs { has_to_log op.now (is_some row.now) ≡ true }
+        requires says { (table : Table) → WhereTold (D.story self.old.device) (λ s. IsLegible table self.old.state.0 s → SaysOld table (next_record self.old.log op.now (old_point row.now))) }
+        ensures event { (before : StoreState) (owner : ℕ) → WasRead before (state_of D.pages D.clock D.fault_count D.story self.old) (key_of op.now) row.now
+            → Makes before (state_of D.pages D.clock D.fault_count D.story self.new) owner (Action.Write op.now result) }
         ensures ready { IsReady (state_of D.pages D.clock D.fault_count D.story self.new) }
     {
-        match self.log_write(laid(row), point_of(&old)) {
+        match self.log_op(op, row) {
             Ok(ack) => {
                 let seq = self.draw();
+                let old = matter_of(row);
                 let ops = self.log.records as u32;
                 Ok(Wrote { seq, old, ops, ack })
             }
-            Err(_) => {
-                self.rows.restore(row.key, old);
-                Err(Refusal::Fault)
-            }
-        }
-    }
-
-    // The room for the row is taken before the log is written, and given back where that fails.
-    fn put(&mut self, row: &Row) -> Result<Wrote, Refusal>
-        requires ready { IsReady (state_of D.pages D.clock D.fault_count D.story self.old) }
-        requires can { CanWrite (state_of D.pages D.clock D.fault_count D.story self.old) }
-        ensures event { (owner : ℕ) → Makes (state_of D.pages D.clock D.fault_count D.story self.old) (state_of D.pages D.clock D.fault_count D.story self.new) owner (Action.Write (logged.Put row.now) result) }
-        ensures ready { IsReady (state_of D.pages D.clock D.fault_count D.story self.new) }
-    {
-        match self.lay(row) {
-            Ok(old) => self.log_put(row, old),
-            Err(_) => Err(Refusal::OutOfMemory),
-        }
-    }
-
-    // Where nothing stands at the key, nothing is logged.
-    fn del(&mut self, key: u64) -> Result<Wrote, Refusal>
-        requires ready { IsReady (state_of D.pages D.clock D.fault_count D.story self.old) }
-        requires can { CanWrite (state_of D.pages D.clock D.fault_count D.story self.old) }
-        ensures event { (owner : ℕ) → Makes (state_of D.pages D.clock D.fault_count D.story self.old) (state_of D.pages D.clock D.fault_count D.story self.new) owner (Action.Write (logged.Del key) result) }
-        ensures ready { IsReady (state_of D.pages D.clock D.fault_count D.story self.new) }
-    {
-        let old = match self.rows.get(key) {
-            Some(old) => old,
-            None => return Ok(self.wrote(None, 0)),
-        };
-        if self.acks.reserve(1).is_err() {
-            return Err(Refusal::OutOfMemory);
-        }
-        match self.log_write(LogOp::Del(key), Some(old.0)) {
-            Ok(ack) => {
-                self.rows.del(key);
-                Ok(self.wrote(Some(old), ack))
-            }
-            Err(Failed) => Err(Refusal::Fault),
+            Err(_) => Err(Refusal::Fault),
         }
     }
 
@@ -185,8 +171,10 @@ impl<D: Device> Store<D> {
     /// An answered write is in each image of each crash from its ack on. A delete of a key where nothing stands is answered
     /// without the log, with the ack 0. The refusals, in this order: `Stopped` exactly where a write or a sync of the device
     /// failed earlier; `Full` exactly where the numbers of writes are used up; `Again` exactly where 2,048 writes wait to be
-    /// flushed; `OutOfMemory`, before anything is written; `Fault` where a call of the device failed in this call: the table is
-    /// as before, the store is stopped, and the write may stand on the device.
+    /// flushed; `OutOfMemory`, before any call of the device; `Fault` where the row at the key could not be read, and
+    /// `Damaged` where a page that was read for it is none for its place (which doesn't come where the store was opened from
+    /// what was on the disk), both before anything is written; and `Fault` where the device failed while the write was logged:
+    /// the table is as before, the store is stopped, and the write may stand on the device.
     pub fn write(&mut self, owner: u64, op: &WriteOp) -> Result<Wrote, Refusal>
         requires ready { IsReady (state_of D.pages D.clock D.fault_count D.story self.old) }
         ensures event { Makes (state_of D.pages D.clock D.fault_count D.story self.old) (state_of D.pages D.clock D.fault_count D.story self.new) owner (Action.Write op.now result) }
@@ -195,9 +183,17 @@ impl<D: Device> Store<D> {
         if let Err(refusal) = self.check_write() {
             return Err(refusal);
         }
-        match op {
-            LogOp::Put(row) => self.put(row),
-            LogOp::Del(key) => self.del(*key),
+        if self.make_room().is_err() {
+            return Err(Refusal::OutOfMemory);
+        }
+        let row = match read_row(&mut self.device, &self.state, key_of(op)) {
+            Ok(row) => row,
+            Err(fault) => return Err(refused(fault)),
+        };
+        if has_to_log(op, &row) {
+            self.write_over(op, &row)
+        } else {
+            Ok(self.nothing_there())
         }
     }
 }

@@ -1,19 +1,21 @@
--- Which commands events are, and what became of them.
-use Rattle.std.specs.Prelude.{◌≡◌, ℕ, List, [], ◌∷◌, ◌++◌, Option, Some, None, Result, Ok, Err}
+-- Which commands events are, and what became of them. A command is carried out by events one after another: its own one, which
+-- the table answers, and upkeep.
+use Rattle.std.specs.Prelude.{◌≡◌, ◌⊎◌, ℕ, ◌≤◌, Bool, true, false, if◌then◌else◌, List, [], ◌∷◌, ◌++◌, Contains, Option, Some, None, Result, Ok, Err}
 use Rattle.std.specs.Option.{option_map}
 use Rattle.geo_base.specs.declared.points.Point.{Point}
-use Rattle.table_model.specs.Table.{Table, Place, place_of}
-use Rattle.table_model.specs.Commands.{Write, put, del, Command, write, get, count, region, WriteReply, put_new, put_old, del_none, del_old, Reply, wrote, got, counted, rows, Outcome, answered, refused}
+use Rattle.table_model.specs.Table.{place_of}
+use Rattle.table_model.specs.Commands.{put, del, TableCommand, write, get, count, region, Command, on_table, flush, WriteReply, del_old, wrote, got, counted, rows, Outcome, answered, quiet, refused}
 use Rattle.table_model.specs.Answers.{put_reply, del_reply}
 use Rattle.table_model.specs.declared.Why.{Why}
 use Rattle.table_model.specs.declared.Why.TheVariants as why
 use Rattle.wal_log.specs.declared.records.LogOp.{LogOp}
 use Rattle.wal_log.specs.declared.records.LogOp.TheVariants.{Put, Del}
 use Rattle.image_model.specs.Recovered.{write_of}
-use Rattle.store_machine.specs.Machine.{Group}
+use Rattle.store_machine.specs.Machine.{Group, group_of}
 use Rattle.store_machine.specs.Needs.{place_in}
 use Rattle.store_machine.specs.declared.events.Wrote.{Wrote}
 use Rattle.store_machine.specs.declared.events.Got.{Got}
+use Rattle.store_machine.specs.declared.events.Look.{Look}
 use Rattle.store_machine.specs.declared.events.Found.{Found}
 use Rattle.store_machine.specs.declared.events.Refusal.{Refusal}
 use Rattle.store_machine.specs.declared.events.Refusal.TheVariants.{Fault, Stopped, Full, Again, NoIndex, Damaged, OutOfMemory}
@@ -21,55 +23,156 @@ use Rattle.store_machine.specs.declared.events.Action.{Action}
 use Rattle.store_machine.specs.declared.events.Action.TheVariants as action
 use Rattle.store_machine.specs.declared.events.Event.{Event}
 
--- The word of a refusal. A write that may be made again after a flush is refused as there is no room, until there are flushes.
-abbrev pub why_of : Refusal → Why
-why_of Fault = why.Fault
-why_of (Stopped faults) = why.Stopped
-why_of (Full need longest) = why.Full
-why_of (Again ops) = why.Full
-why_of NoIndex = why.NoIndex
-why_of (Damaged page) = why.Damaged
-why_of OutOfMemory = why.Memory
+-- Upkeep: what a store tells about itself, the steps of a flush, and a write that is to be made again after them.
+abbrev pub is_upkeep : Action → Bool
+is_upkeep (action.Write op (Ok answer)) = false
+is_upkeep (action.Write op (Err (Again ops))) = true
+is_upkeep (action.Write op (Err refusal)) = false
+is_upkeep (action.Get key answer) = false
+is_upkeep (action.Count seq n) = false
+is_upkeep (action.Look look) = true
+is_upkeep (action.Region kind rect answer) = false
+is_upkeep (action.Freeze least answer) = true
+is_upkeep (action.Begin answer) = true
+is_upkeep (action.JobWrite row answer) = true
+is_upkeep (action.Install row answer) = true
+
+-- the events of a command without its upkeep
+abbrev pub own : List Event → List Event
+own [] = []
+own (e ∷ es) = if is_upkeep e.action then own es else e ∷ own es
+
+-- The word of a refusal. One after which a call may be made again has none: no command ends so.
+abbrev pub word_of : Refusal → Option Why
+word_of Fault = Some why.Fault
+word_of (Stopped faults) = Some why.Stopped
+word_of (Full need longest) = Some why.Full
+word_of (Again ops) = None
+word_of NoIndex = Some why.NoIndex
+word_of (Damaged page) = Some why.Damaged
+word_of OutOfMemory = Some why.Memory
+
+-- the refusal that an event answered
+abbrev pub refusal_of : Action → Option Refusal
+refusal_of (action.Write op (Err refusal)) = Some refusal
+refusal_of (action.Get key (Err refusal)) = Some refusal
+refusal_of (action.Region kind rect (Err refusal)) = Some refusal
+refusal_of (action.Freeze least (Err refusal)) = Some refusal
+refusal_of (action.Begin (Err refusal)) = Some refusal
+refusal_of (action.JobWrite row (Err refusal)) = Some refusal
+refusal_of (action.Install row (Err refusal)) = Some refusal
+refusal_of other = None
+
+-- an event was refused with this word
+pub record IsRefusedWith (word : Why) (a : Action) : Type 0 where
+  pub refusal : Refusal
+  pub is : refusal_of a ≡ Some refusal
+  pub word_is : word_of refusal ≡ Some word
 
 -- what a write replies, by what stood at its key
 abbrev pub wrote_reply : LogOp → Option (Point × List ℕ) → WriteReply
 wrote_reply (Put row) old = put_reply (option_map place_in old)
 wrote_reply (Del key) old = del_reply (option_map place_in old)
 
--- what became of a command, by the answer of the call
-abbrev pub write_outcome : LogOp → Result Wrote Refusal → Outcome
+-- what became of a command, by what is answered to it
+abbrev pub write_outcome : LogOp → Result Wrote Why → Outcome
 write_outcome op (Ok answer) = answered answer.seq (wrote (wrote_reply op answer.old))
-write_outcome op (Err refusal) = refused (why_of refusal)
+write_outcome op (Err word) = refused word
 
-abbrev pub get_outcome : Result Got Refusal → Outcome
+abbrev pub get_outcome : Result Got Why → Outcome
 get_outcome (Ok answer) = answered answer.seq (got (option_map place_of answer.row))
-get_outcome (Err refusal) = refused (why_of refusal)
+get_outcome (Err word) = refused word
 
-abbrev pub region_outcome : Result Found Refusal → Outcome
+abbrev pub region_outcome : Result Found Why → Outcome
 region_outcome (Ok answer) = answered answer.seq (rows answer.rows)
-region_outcome (Err refusal) = refused (why_of refusal)
+region_outcome (Err word) = refused word
 
--- the call is that command, and this became of it
-abbrev pub IsCall : Action → Command → Outcome → Type 0
-IsCall (action.Write op answer) c o = (c ≡ write (write_of op)) × (o ≡ write_outcome op answer)
-IsCall (action.Get key answer) c o = (c ≡ get key) × (o ≡ get_outcome answer)
+abbrev pub flush_outcome : Result (Unit {0}) Why → Outcome
+flush_outcome (Ok done) = quiet
+flush_outcome (Err word) = refused word
+
+-- an answer of the store is that to the command: the same, or a refusal by its word
+abbrev pub IsSaid : {X : Type 0} → Result X Refusal → Result X Why → Type 0
+IsSaid (Ok x) answer = answer ≡ Ok x
+IsSaid (Err refusal) answer = (word : Why) × (word_of refusal ≡ Some word) × (answer ≡ Err word)
+
+-- the event is that command, and this became of it
+abbrev pub IsCall : Action → TableCommand → Outcome → Type 0
+IsCall (action.Write op result) c o = (c ≡ write (write_of op)) × ((answer : Result Wrote Why) × IsSaid result answer × (o ≡ write_outcome op answer))
+IsCall (action.Get key result) c o = (c ≡ get key) × ((answer : Result Got Why) × IsSaid result answer × (o ≡ get_outcome answer))
 IsCall (action.Count seq n) c o = (c ≡ count) × (o ≡ answered seq (counted n))
-IsCall (action.Look look) c o = ⊥
-IsCall (action.Region kind rect answer) c o = (c ≡ region kind rect) × (o ≡ region_outcome answer)
+IsCall (action.Region kind rect result) c o = (c ≡ region kind rect) × ((answer : Result Found Why) × IsSaid result answer × (o ≡ region_outcome answer))
+IsCall other c o = ⊥
+
+-- beside upkeep the command made one event
+pub record DoesOne (c : TableCommand) (o : Outcome) (es : List Event) : Type 0 where
+  pub event : Event
+  pub only : own es ≡ event ∷ []
+  pub call : IsCall event.action c o
+
+-- The command is a write that is to be made again after some upkeep, and the last event, a step of this upkeep, was refused. So
+-- the write was not made.
+pub record UpkeepRefused (c : TableCommand) (o : Outcome) (es : List Event) : Type 0 where
+  pub op : LogOp
+  pub command_is : c ≡ write (write_of op)
+  pub none : own es ≡ []
+  pub before : List Event
+  pub again : Event
+  pub between : List Event
+  pub last : Event
+  pub are : es ≡ before ++ again ∷ (between ++ last ∷ [])
+  pub ops : ℕ
+  pub again_is : again.action ≡ action.Write op (Err (Again ops))
+  pub word : Why
+  pub refused_is : IsRefusedWith word last.action
+  pub outcome_is : o ≡ refused word
+
+-- what the store told about itself in these events
+abbrev pub look_in : Action → List Look
+look_in (action.Look look) = look ∷ []
+look_in other = []
+
+abbrev pub looks : List Event → List Look
+looks [] = []
+looks (e ∷ es) = look_in e.action ++ looks es
+
+-- Upkeep alone, in which the writes that were made before are placed: what the store told first about itself was the number of the last
+-- write, and then or later it told that all indexes have the writes up to that one on disk.
+pub record IsFlush (es : List Event) : Type 0 where
+  pub none : own es ≡ []
+  pub first : Look
+  pub later : List Look
+  pub looks_are : looks es ≡ first ∷ later
+  pub told : Look
+  pub is_told : Contains (first ∷ later) told
+  pub placed : first.lsn ≤ told.placed
+
+-- upkeep alone, whose last event was refused
+pub record IsRefusedFlush (word : Why) (es : List Event) : Type 0 where
+  pub none : own es ≡ []
+  pub before : List Event
+  pub last : Event
+  pub are : es ≡ before ++ last ∷ []
+  pub refused_is : IsRefusedWith word last.action
+
+-- the events are this command, and this became of it
+abbrev pub Does : Command → Outcome → List Event → Type 0
+Does (on_table c) o es = DoesOne c o es ⊎ UpkeepRefused c o es
+Does flush (answered seq reply) es = ⊥
+Does flush quiet es = IsFlush es
+Does flush (refused word) es = IsRefusedFlush word es
 
 -- the events are these commands, one after another, and this became of them
 abbrev pub DoesAll : List Command → List Outcome → List Event → Type 0
-DoesAll [] [] [] = Unit {0}
-DoesAll (c ∷ cs) (o ∷ os) (e ∷ es) = IsCall e.action c o × DoesAll cs os es
-DoesAll [] [] (e ∷ es) = ⊥
+DoesAll [] [] es = es ≡ []
 DoesAll [] (o ∷ os) es = ⊥
 DoesAll (c ∷ cs) [] es = ⊥
-DoesAll (c ∷ cs) (o ∷ os) [] = ⊥
+DoesAll (c ∷ cs) (o ∷ os) es = (its : List Event) × (rest : List Event) × (es ≡ its ++ rest) × Does c o its × DoesAll cs os rest
 
 -- a put that is answered is logged, and a delete that took a row away
 abbrev pub logged_by : Command → Outcome → List Group
-logged_by (write (put row)) (answered seq reply) = (put row ∷ []) ∷ []
-logged_by (write (del key)) (answered seq (wrote (del_old point note))) = (del key ∷ []) ∷ []
+logged_by (on_table (write (put row))) (answered seq reply) = (put row ∷ []) ∷ []
+logged_by (on_table (write (del key))) (answered seq (wrote (del_old point note))) = (del key ∷ []) ∷ []
 logged_by c o = []
 
 -- what was logged by the answered writes of these commands, in order
@@ -78,12 +181,7 @@ logged_groups [] os = []
 logged_groups (c ∷ cs) [] = []
 logged_groups (c ∷ cs) (o ∷ os) = logged_by c o ++ logged_groups cs os
 
--- the write that was refused since the device failed
-abbrev pub failed_by : Command → Outcome → Option Group → Option Group
-failed_by (write w) (refused why.Fault) before = Some (w ∷ [])
-failed_by c o before = before
-
-abbrev pub failed_group : Option Group → List Command → List Outcome → Option Group
-failed_group before [] os = before
-failed_group before (c ∷ cs) [] = before
-failed_group before (c ∷ cs) (o ∷ os) = failed_group (failed_by c o before) cs os
+-- the group that was being logged when a write or a sync of the device failed, if one was
+abbrev pub stopped_group : Option Group → List Event → Option Group
+stopped_group before [] = before
+stopped_group before (e ∷ es) = stopped_group (if e.write_failed then group_of e.action else before) es

@@ -2,7 +2,7 @@
 use Rattle.std.specs.Prelude.{◌⊎◌, ℕ, suc, ◌+◌, ◌<◌, nat_le, List, [], ◌∷◌, ◌++◌, length, take, Option, Some, None, if◌then◌else◌}
 use Rattle.dev_model.specs.Story.{Bytes}
 use Rattle.table_model.specs.Table.{Table}
-use Rattle.image_model.specs.Recovered.{Recovers}
+use Rattle.component_image.specs.Recovered.{Recovers}
 use Rattle.store_machine.specs.Machine.{Group, after_groups}
 
 -- how many were acknowledged at the moment

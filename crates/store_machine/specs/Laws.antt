@@ -1,7 +1,12 @@
 -- Laws of the definitions beside this file, for proofs of callers. No public contract needs them.
 pub mod Counting
 pub mod Crashes
-pub mod Steps
-pub mod Rests
-pub mod Logging
+pub mod Events
 pub mod Histories
+pub mod LogCalls
+pub mod Logging
+pub mod Opening
+pub mod Reading
+pub mod Stepping
+pub mod Steps
+pub mod Working

@@ -1,16 +1,21 @@
--- The machine: its state, and what an event does to it.
-use Rattle.std.specs.Prelude.{ℕ, ◌+◌, Bool, true, List, [], ◌∷◌, ◌++◌, Option, Some, None, is_some, Ok, Err, if◌then◌else◌}
+-- The machine of a store that flushes: its state, and what an event does to it.
+use Rattle.std.specs.Prelude.{ℕ, ◌+◌, ◌-◌, Bool, true, false, List, [], ◌∷◌, ◌++◌, Option, Some, None, is_some, Ok, Err, if◌then◌else◌, set}
 use Rattle.dev_model.specs.Counts.{next_count}
 use Rattle.dev_model.specs.declared.calls.DeviceCall.{DeviceCall}
 use Rattle.table_model.specs.Table.{Table}
 use Rattle.table_model.specs.Commands.{Write as TableWrite}
 use Rattle.table_model.specs.Answers.{after_write}
+use Rattle.wal_log.specs.State.{following}
+use Rattle.wal_log.specs.declared.log.Log.{Log}
 use Rattle.wal_log.specs.declared.records.LogOp.{LogOp}
 use Rattle.wal_log.specs.declared.records.LogOp.TheVariants.{Put, Del}
 use Rattle.image_model.specs.Recovered.{write_of, after_writes}
+use Rattle.primary_ix.specs.Wanted.{written_row}
+use Rattle.store_state.specs.Lists.{Lists}
+use Rattle.store_state.specs.Steps.{added, frozen_at, begun, one_written, installed}
 use Rattle.store_machine.specs.declared.events.Wrote.{Wrote}
 use Rattle.store_machine.specs.declared.events.Action.{Action}
-use Rattle.store_machine.specs.declared.events.Action.TheVariants.{Write, Get, Count, Look, Region}
+use Rattle.store_machine.specs.declared.events.Action.TheVariants.{Write, Get, Count, Look, Region, Freeze, Begin, JobWrite, Install}
 use Rattle.store_machine.specs.declared.events.Event.{Event}
 
 -- writes that are logged together
@@ -25,9 +30,9 @@ pub record Machine : Type 0 where
   -- the device's count of faults when a write or a sync of it failed, and the group that was being logged then
   pub stopped : Option ℕ
   pub unfinished : Option Group
-  -- the number of the next write, and how many writes wait to be flushed
-  pub next_lsn : ℕ
-  pub operations : ℕ
+  -- the end of the log, and what is in memory of the rows
+  pub log : Log
+  pub lists : Lists
   -- the number of the next answer
   pub seq : ℕ
   -- the declared indexes, as bits
@@ -40,8 +45,8 @@ pub record Machine : Type 0 where
 -- what is there when a store was opened
 pub record Opening : Type 0 where
   pub table : Table
-  pub next_lsn : ℕ
-  pub operations : ℕ
+  pub log : Log
+  pub lists : Lists
   pub declared : ℕ
   pub faults : ℕ
   pub clock : ℕ
@@ -54,8 +59,8 @@ at_opening o = record {
   acks = [];
   stopped = None;
   unfinished = None;
-  next_lsn = o.next_lsn;
-  operations = o.operations;
+  log = o.log;
+  lists = o.lists;
   seq = 0;
   declared = o.declared;
   faults = o.faults;
@@ -68,13 +73,20 @@ abbrev pub is_logged : LogOp → Wrote → Bool
 is_logged (Put row) wrote = true
 is_logged (Del key) wrote = is_some wrote.old
 
--- one group more
-abbrev pub after_logged : Group → (ack : ℕ) → Machine → Machine
-after_logged group ack m = record m {
-  logged = m.logged ++ group ∷ [];
+-- the log after one record more, and after a change of segments
+abbrev pub log_with_record : Log → Log
+log_with_record log = record log { records = log.records + 1; next_lsn = log.next_lsn + 1 }
+
+abbrev pub log_turned : Log → Log
+log_turned log = record log { generation = log.generation + 1; records = 0; open_headers = set log.open_headers (following log) true }
+
+-- one group more, of a write that found a row of its key or none
+abbrev pub after_logged : LogOp → (had : Bool) → (ack : ℕ) → Machine → Machine
+after_logged op had ack m = record m {
+  logged = m.logged ++ (write_of op ∷ []) ∷ [];
   acks = m.acks ++ ack ∷ [];
-  next_lsn = m.next_lsn + 1;
-  operations = m.operations + 1;
+  log = log_with_record m.log;
+  lists = added (written_row (write_of op)) had m.lists;
 }
 
 -- one answer more
@@ -84,7 +96,7 @@ after_answer m = record m { seq = next_count m.seq }
 -- what an event does beside its device calls, its faults and its time
 abbrev pub does : Action → Machine → Machine
 does (Write op (Ok wrote)) m =
-    let n : Machine = if is_logged op wrote then after_logged (write_of op ∷ []) wrote.ack m else m in
+    let n : Machine = if is_logged op wrote then after_logged op (is_some wrote.old) wrote.ack m else m in
     after_answer (record n { table = after_write m.table (write_of op) })
 does (Write op (Err refusal)) m = m
 does (Get key (Ok got)) m = after_answer m
@@ -93,14 +105,21 @@ does (Count seq rows) m = after_answer m
 does (Look look) m = m
 does (Region kind rect (Ok found)) m = after_answer m
 does (Region kind rect (Err refusal)) m = m
+does (Freeze least (Ok true)) m = record m { log = log_turned m.log; lists = frozen_at (m.log.next_lsn - 1) m.lists }
+does (Freeze least (Ok false)) m = m
+does (Freeze least (Err refusal)) m = m
+does (Begin (Ok (Some row))) m = record m { lists = begun row m.lists }
+does (Begin (Ok None)) m = m
+does (Begin (Err refusal)) m = m
+does (JobWrite row (Ok done)) m = record m { lists = one_written m.lists }
+does (JobWrite row (Err refusal)) m = m
+does (Install row (Ok done)) m = record m { lists = installed row m.lists }
+does (Install row (Err refusal)) m = m
 
 -- the group that an event logs
 abbrev pub group_of : Action → Option Group
 group_of (Write op answer) = Some (write_of op ∷ [])
-group_of (Get key answer) = None
-group_of (Count seq rows) = None
-group_of (Look look) = None
-group_of (Region kind rect answer) = None
+group_of other = None
 
 -- the machine after an event
 abbrev pub after_event : Machine → Event → Machine

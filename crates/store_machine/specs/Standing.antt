@@ -3,19 +3,18 @@ use Rattle.std.specs.Prelude.{◌≡◌, ℕ, ◌≤◌, Bool, true, false, List
 use Rattle.dev_model.specs.Story.{Story, Calls, after, clock_of, bytes_of, IsCalmAt}
 use Rattle.dev_model.specs.Moments.{EachMoment}
 use Rattle.dev_model.specs.DeviceCalls.{ok_calls}
-use Rattle.table_model.specs.Table.{Table}
-use Rattle.wal_log.specs.Segments.{segments_of}
-use Rattle.wal_log.specs.Rules.{Opens as LogOpens, in_order}
-use Rattle.wal_log.specs.State.{IsAtRest as LogAtRest, IsCounted, IsLogOf, HasLast}
+use Rattle.table_model.specs.Table.{Table, rows_of}
+use Rattle.wal_log.specs.State.{IsCounted}
 use Rattle.wal_log.specs.declared.log.Log.{Log}
-use Rattle.image_model.specs.Superblock.{IsFormatted, declared}
-use Rattle.image_model.specs.Directory.{HasNoComponent}
-use Rattle.image_model.specs.Opening.{ends, IsLookedAt, IsLookedInSuperblock, IsSlotGate}
-use Rattle.image_model.specs.Recovered.{recovered, Recovers}
-use Rattle.image_model.specs.declared.places.TheConstants.{LOG_START, LOG_PAGES}
-use Rattle.store_machine.specs.Machine.{Machine, Opening, at_opening, after_all, after_groups}
+use Rattle.image_model.specs.Superblock.{declared}
+use Rattle.image_model.specs.declared.places.TheConstants.{LOG_PAGES}
+use Rattle.component_image.specs.Recovered.{IsLookedAt, IsContent, Recovers}
+use Rattle.store_machine.specs.Crash.{attempted, Keeps}
+use Rattle.store_machine.specs.Machine.{after_groups, Machine, Opening, at_opening, after_all}
+use Rattle.store_state.specs.Lists.{Lists, IsLists}
+use Rattle.kept_state.specs.Keeping.{IsKept, IsNumbered}
+use Rattle.kept_state.specs.Reading.{IsLegible}
 use Rattle.store_machine.specs.Runs.{IsRun}
-use Rattle.store_machine.specs.Crash.{Keeps, attempted}
 use Rattle.store_machine.specs.declared.events.Action.{Action}
 use Rattle.store_machine.specs.declared.events.Event.{Event}
 
@@ -26,13 +25,13 @@ pub record DeviceState : Type 0 where
   pub faults : ℕ
   pub story : Option Story
 
--- What there is to see of a store: its device, the declared indexes as bits, the rows that it has in memory, the number of the
--- next answer, the count of faults where it was stopped, the end of its log, the acks of all logged writes, and the clock and
--- the count of faults when it was opened.
+-- What there is to see of a store: its device, the declared indexes as bits, its lists, the number of the next answer, the count of
+-- faults where it was stopped, the end of its log, the acks of all logged writes, and the clock and the count of faults when it was
+-- opened.
 pub record StoreState : Type 0 where
   pub device : DeviceState
   pub declared : ℕ
-  pub table : Table
+  pub lists : Lists
   pub seq : ℕ
   pub stopped : Option ℕ
   pub log : Log
@@ -48,15 +47,17 @@ AreUpTo most (x ∷ xs) = (x ≤ most) × AreUpTo most xs
 -- what each call needs of a store, and leaves
 pub record IsReady (store : StoreState) : Type 0 where
   pub pages : LOG_PAGES ≤ store.device.pages
-  pub start : store.log.start ≡ LOG_START
+  pub space : store.lists.space.pages ≡ store.device.pages
+  pub lists : IsLists store.lists
+  pub numbered : IsNumbered store.log store.lists
   pub counted : IsCounted store.log
 
--- the numbers of a store are those of the machine, whatever its device tells
+-- the numbers and lists of a store are those of the machine, whatever its device tells
 pub record Has (store : StoreState) (m : Machine) : Type 0 where
   pub stopped : store.stopped ≡ m.stopped
   pub seq : store.seq ≡ m.seq
-  pub next_lsn : store.log.next_lsn ≡ m.next_lsn
-  pub operations : store.log.records ≡ m.operations
+  pub log : store.log ≡ m.log
+  pub lists : store.lists ≡ m.lists
   pub acks : store.acks ≡ m.acks
   pub declared : store.declared ≡ m.declared
   pub faults : store.device.faults ≡ m.faults
@@ -64,28 +65,14 @@ pub record Has (store : StoreState) (m : Machine) : Type 0 where
   pub counted : length m.acks ≡ length m.logged
   pub running : m.stopped ≡ None → m.unfinished ≡ None
 
--- What a store has on its device while nothing has stopped it: all that an opening looks at is on the disk, the device is
--- formatted and has no component, the log stands at its place in the format, is at rest and ends where the store's log does, and
--- its records give the table.
-pub record IsAtRest (pages : ℕ) (log : Log) (table : Table) (s : Story) : Type 0 where
-  pub formatted : IsFormatted pages (bytes_of s)
-  pub directory : HasNoComponent (bytes_of s)
-  pub superblock_calm : IsCalmAt (IsLookedInSuperblock (bytes_of s)) s
-  pub directory_calm : IsCalmAt IsSlotGate s
-  pub log_start : log.start ≡ LOG_START
-  pub log_rest : LogAtRest log s
-  pub log_of : IsLogOf log (segments_of LOG_START (bytes_of s))
-  pub log_opens : LogOpens ends (segments_of LOG_START (bytes_of s))
-  pub table_is : recovered (bytes_of s) ≡ table
-
 -- what is there at the opening, by the bytes as they were read then
 pub record Begins (o : Opening) (pages : ℕ) (opening : Story) : Type 0 where
   pub clock : clock_of opening ≡ o.clock
   pub calm : IsCalmAt (IsLookedAt (bytes_of opening)) opening
+  pub content_calm : IsCalmAt (IsContent (bytes_of opening)) opening
   pub recovers : Recovers pages o.table (bytes_of opening)
   pub declared_is : declared (bytes_of opening) ≡ o.declared
-  pub generation : ℕ
-  pub last : HasLast generation o.next_lsn o.operations (in_order (segments_of LOG_START (bytes_of opening)))
+  pub kept : IsKept pages o.log o.table o.lists opening
 
 -- What the device has told since the opening: its calls were those of the events, what is on it, and what each crash since
 -- then leaves.
@@ -98,20 +85,28 @@ pub record Tells (o : Opening) (store : StoreState) (m : Machine) : Type 0 where
   pub told : store.device.story ≡ Some now
   pub clock : store.device.clock ≡ clock_of now
   pub made : ok_calls (clock_of opening) calls ≡ m.device_calls
-  pub table : store.table ≡ m.table
   pub replayed : m.table ≡ after_groups o.table m.logged
-  pub at_rest : m.stopped ≡ None → IsAtRest store.device.pages store.log m.table now
+  pub kept : m.stopped ≡ None → IsKept store.device.pages store.log m.table store.lists now
+  pub legible : IsLegible m.table store.lists now
+  pub rows : store.lists.rows ≡ length (rows_of m.table)
   pub acked : AreUpTo (clock_of now) m.acks
   pub survives : EachMoment (clock_of opening) now (Keeps store.device.pages o.table (attempted m.logged m.unfinished) m.acks)
 
 -- The store stands for the events, from this opening on: they are a run from there, and the store has the state after them.
--- Where `known`, the device tells, and all that an opening looks at was on the disk and could be opened.
+-- Where `known`, the device tells, all that an opening looks at and the components were on the disk, and the store could be opened
+-- from that.
 pub record Stands (known : Bool) (o : Opening) (store : StoreState) (events : List Event) : Type 0 where
   pub opened_at : store.opened_at ≡ o.clock
   pub opened_faults : store.opened_faults ≡ o.faults
   pub run : IsRun known (at_opening o) events
   pub has : Has store (after_all (at_opening o) events)
   pub tells : known ≡ true → Tells o store (after_all (at_opening o) events)
+
+-- the store stands for some events since some opening, whatever its device tells
+pub record IsStanding (store : StoreState) : Type 0 where
+  pub opening : Opening
+  pub events : List Event
+  pub stands : Stands false opening store events
 
 -- whatever the store stood for, known or not, it stands for that followed by these events
 abbrev pub Adds : StoreState → StoreState → List Event → Type 0
@@ -135,15 +130,16 @@ pub record Makes (old new : StoreState) (owner : ℕ) (action : Action) : Type 0
 abbrev pub opening_of : Table → StoreState → Opening
 opening_of table store = record {
   table = table;
-  next_lsn = store.log.next_lsn;
-  operations = store.log.records;
+  log = store.log;
+  lists = store.lists;
   declared = store.declared;
   faults = store.opened_faults;
   clock = store.opened_at;
 }
 
--- What an opening promises: the store stands for no event. It is known where the device told, and all that an opening looks at
--- was on the disk.
+-- What an opening promises: the store stands for no event. It is known where the device told, all that an opening looks at and the
+-- components were on the disk, and the bytes recover to a table.
 pub record OpensFrom (device : DeviceState) (store : StoreState) : Type 0 where
   pub unknown : (table : Table) → Stands false (opening_of table store) store []
-  pub known : (s : Story) → device.story ≡ Some s → IsCalmAt (IsLookedAt (bytes_of s)) s → Stands true (opening_of (recovered (bytes_of s)) store) store []
+  pub known : (s : Story) (table : Table) → device.story ≡ Some s → IsCalmAt (IsLookedAt (bytes_of s)) s → IsCalmAt (IsContent (bytes_of s)) s
+      → Recovers device.pages table (bytes_of s) → Stands true (opening_of table store) store []

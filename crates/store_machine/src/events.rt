@@ -3,6 +3,7 @@
 use dev_model::calls::DeviceCall;
 use geo_base::{IndexKind, Note, Point, Rect, Row};
 use std::collections::LinkedList;
+use store_state::JobRow;
 use wal_log::LogOp;
 
 /// A write of the store: it lays a row at its key, or takes away what is there.
@@ -19,7 +20,7 @@ pub enum Refusal {
     /// There is no room: so many pages are needed, and the longest free run has so many. Both are 0 where the numbers of
     /// writes are used up.
     Full { need: u32, longest: u32 },
-    /// So many writes wait to be flushed, and no more may. The call may be made again after that.
+    /// So many writes came since the last freeze, and no more may. The call may be made again after the next one.
     Again { ops: u32 },
     /// The store has no such index.
     NoIndex,
@@ -36,7 +37,7 @@ pub struct Wrote {
     pub seq: u64,
     /// What stood at the key.
     pub old: Option<(Point, Note)>,
-    /// How many writes wait to be flushed now.
+    /// How many logged writes came since the last freeze, with this one.
     pub ops: u32,
     /// The device's clock from which on each crash leaves the write, or 0 where nothing had to be logged.
     pub ack: u64,
@@ -52,7 +53,7 @@ pub struct Got {
 /// What a store tells about itself.
 #[derive(Clone, Copy, Debug, PartialEq, Eq)]
 pub struct Look {
-    /// How many writes wait to be flushed.
+    /// How many logged writes came since the last freeze.
     pub ops: u32,
     /// Whether a set of components is frozen and not flushed yet.
     pub frozen: bool,
@@ -78,6 +79,14 @@ pub enum Action {
     Count(u64, u64),
     Look(Look),
     Region(IndexKind, Rect, Result<Found, Refusal>),
+    /// At how many writes the active list is to be frozen, and whether it was.
+    Freeze(u32, Result<bool, Refusal>),
+    /// The job that was begun, if there was something to do.
+    Begin(Result<Option<JobRow>, Refusal>),
+    /// The job of which the next page was written.
+    JobWrite(JobRow, Result<(), Refusal>),
+    /// The job whose component was installed.
+    Install(JobRow, Result<(), Refusal>),
 }
 
 /// One call of a store: by whom it was made, what was answered, and what it did on the device.

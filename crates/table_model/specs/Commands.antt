@@ -11,11 +11,17 @@ pub data Write : Type 0 where
   put : Row → Write
   del : ℕ → Write
 
+-- what the table answers
+pub data TableCommand : Type 0 where
+  write : Write → TableCommand
+  get : ℕ → TableCommand
+  count : TableCommand
+  region : IndexKind → Corners → TableCommand
+
+-- a command of a script: one for the table, or a flush, of which the table knows nothing
 pub data Command : Type 0 where
-  write : Write → Command
-  get : ℕ → Command
-  count : Command
-  region : IndexKind → Corners → Command
+  on_table : TableCommand → Command
+  flush : Command
 
 -- what a write replies: whether nothing stood at its key, and else what stood there
 pub data WriteReply : Type 0 where
@@ -30,7 +36,9 @@ pub data Reply : Type 0 where
   counted : ℕ → Reply
   rows : List Row → Reply
 
--- what became of a command: answered with a number that orders the answers of a run, or refused
+-- what became of a command: answered with a number that orders the answers of a run, or carried out with nothing to tell of
+-- it, or refused
 pub data Outcome : Type 0 where
   answered : ℕ → Reply → Outcome
+  quiet : Outcome
   refused : Why → Outcome

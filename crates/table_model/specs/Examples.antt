@@ -1,11 +1,12 @@
 -- Worked examples: two lanes that each put a row and ask for it, in one of their shuffles, and then gets, dels and
--- a count; a script of one lane with a refused command; and records that aren't those of their scripts. No public contract but that of the examples needs this file.
+-- a count; scripts of one lane with a refused command and with flushes; and records that aren't those of their scripts. No
+-- public contract but that of the examples needs this file.
 use Rattle.std.specs.Prelude.{ℕ, List, [], ◌∷◌, Some, None, codes}
 use Rattle.geo_base.specs.declared.points.Row.{Row}
 use Rattle.geo_base.specs.declared.points.IndexKind.TheVariants.{Dhvb}
-use Rattle.table_model.specs.declared.Why.TheVariants.{Memory}
+use Rattle.table_model.specs.declared.Why.TheVariants.{Full, Memory}
 use Rattle.table_model.specs.Table.{place_of}
-use Rattle.table_model.specs.Commands.{Command, write, put, del, get, count, region, answered, refused, wrote, got, counted, rows, put_new, put_old, del_none, del_old}
+use Rattle.table_model.specs.Commands.{Command, on_table, flush, write, put, del, get, count, region, answered, quiet, refused, wrote, got, counted, rows, put_new, put_old, del_none, del_old}
 use Rattle.table_model.specs.Phases.{Phases}
 use Rattle.table_model.specs.Record.{RunRecord}
 
@@ -16,13 +17,13 @@ abbrev pub two : Row
 two = record { key = 1; point = record { x = 2; y = 2 }; note = codes "b" }
 
 abbrev pub all_points : Command
-all_points = region Dhvb (record { x1 = 0; y1 = 0; x2 = 65535; y2 = 65535 })
+all_points = on_table (region Dhvb (record { x1 = 0; y1 = 0; x2 = 65535; y2 = 65535 }))
 
 abbrev pub shuffled_script : Phases Command
 shuffled_script = record {
   setup = [];
-  lanes = (write (put one) ∷ all_points ∷ []) ∷ (write (put two) ∷ all_points ∷ []) ∷ [];
-  after = get 1 ∷ count ∷ write (del 1) ∷ get 1 ∷ count ∷ write (del 1) ∷ [];
+  lanes = (on_table (write (put one)) ∷ all_points ∷ []) ∷ (on_table (write (put two)) ∷ all_points ∷ []) ∷ [];
+  after = on_table (get 1) ∷ on_table count ∷ on_table (write (del 1)) ∷ on_table (get 1) ∷ on_table count ∷ on_table (write (del 1)) ∷ [];
 }
 
 abbrev pub shuffled_record : RunRecord
@@ -39,7 +40,7 @@ shuffled_text = codes "0 1 put new\n1 2 put old 1 1 a\n2 1 region 1\n= 1 2 2 b\n
 
 -- the second command was refused: it has no place
 abbrev pub refused_script : Phases Command
-refused_script = record { setup = write (put one) ∷ all_points ∷ write (put two) ∷ []; lanes = []; after = [] }
+refused_script = record { setup = on_table (write (put one)) ∷ all_points ∷ on_table (write (put two)) ∷ []; lanes = []; after = [] }
 
 abbrev pub refused_record : RunRecord
 refused_record = record { setup = answered 3 (wrote put_new) ∷ refused Memory ∷ answered 9 (wrote (put_old one.point one.note)) ∷ []; lanes = []; after = [] }
@@ -50,6 +51,16 @@ refused_run_text = codes "0 0 put new\n1 0 put old 1 1 a\n- 0 memory\n"
 -- a setup alone
 abbrev pub alone : {X : Type 0} → List X → Phases X
 alone xs = record { setup = xs; lanes = []; after = [] }
+
+-- of the first flush nothing is told, and the second one is refused
+abbrev pub flushed_script : Phases Command
+flushed_script = alone (on_table (write (put one)) ∷ flush ∷ on_table count ∷ flush ∷ [])
+
+abbrev pub flushed_record : RunRecord
+flushed_record = alone (answered 0 (wrote put_new) ∷ quiet ∷ answered 5 (counted 1) ∷ refused Full ∷ [])
+
+abbrev pub flushed_text : List ℕ
+flushed_text = codes "0 0 put new\n1 0 count 1\n- 0 full\n"
 
 -- nothing stands at the key
 abbrev pub false_get : RunRecord

@@ -2,7 +2,7 @@
 use Rattle.std.specs.Prelude.{◌≡◌, ℕ, ◌+◌, ◌<◌, List, [], ◌∷◌, ◌++◌, map, All, nat_lt, if◌then◌else◌}
 use Rattle.std.specs.List.{flat_map}
 use Rattle.table_model.specs.Table.{Table}
-use Rattle.table_model.specs.Commands.{Command, Reply, Outcome, answered, refused}
+use Rattle.table_model.specs.Commands.{TableCommand, Command, on_table, flush, Reply, Outcome, answered, quiet, refused}
 use Rattle.table_model.specs.Answers.{replies}
 use Rattle.table_model.specs.Phases.{Phases}
 use Rattle.table_model.specs.Refusals.{MayRefuse}
@@ -16,14 +16,20 @@ RunRecord = Phases Outcome
 pub record HistoryAnswer : Type 0 where
   pub seq : ℕ
   pub lane : ℕ
-  pub command : Command
+  pub command : TableCommand
   pub reply : Reply
+
+-- a command that was answered so, before other answers; a flush has no place among them
+abbrev pub with_answer : ℕ → Command → ℕ → Reply → List HistoryAnswer → List HistoryAnswer
+with_answer lane (on_table c) seq reply others = record { seq = seq; lane = lane; command = c; reply = reply } ∷ others
+with_answer lane flush seq reply others = others
 
 -- the answered commands of one lane
 abbrev pub lane_answers : ℕ → List Command → List Outcome → List HistoryAnswer
 lane_answers lane [] os = []
 lane_answers lane (c ∷ cs) [] = []
-lane_answers lane (c ∷ cs) (answered seq reply ∷ os) = record { seq = seq; lane = lane; command = c; reply = reply } ∷ lane_answers lane cs os
+lane_answers lane (c ∷ cs) (answered seq reply ∷ os) = with_answer lane c seq reply (lane_answers lane cs os)
+lane_answers lane (c ∷ cs) (quiet ∷ os) = lane_answers lane cs os
 lane_answers lane (c ∷ cs) (refused why ∷ os) = lane_answers lane cs os
 
 -- those of the lanes from a number on
@@ -57,6 +63,7 @@ IsAnswered t h = map (λ a. a.reply) h ≡ replies t (map (λ a. a.command) h)
 abbrev pub seqs : List Outcome → List ℕ
 seqs [] = []
 seqs (answered seq reply ∷ os) = seq ∷ seqs os
+seqs (quiet ∷ os) = seqs os
 seqs (refused why ∷ os) = seqs os
 
 -- each below the next
@@ -73,9 +80,20 @@ abbrev pub AllApart : List (List ℕ) → Type 0
 AllApart [] = Unit {0}
 AllApart (ns ∷ nss) = All (λ a. All (λ b. a ≡ b → ⊥) (flat_map (λ ms. ms) nss)) ns × AllApart nss
 
--- which outcomes a command may have: any answer, since the history says which, and its own refusals
+-- a command for the table is answered
+abbrev pub HasReply : Command → Type 0
+HasReply (on_table c) = Unit {0}
+HasReply flush = ⊥
+
+-- of a flush nothing is told
+abbrev pub IsQuiet : Command → Type 0
+IsQuiet (on_table c) = ⊥
+IsQuiet flush = Unit {0}
+
+-- which outcomes a command may have: if it is answered then any answer, since the history says which; and its own refusals
 abbrev pub IsFor : Command → Outcome → Type 0
-IsFor c (answered seq reply) = Unit {0}
+IsFor c (answered seq reply) = HasReply c
+IsFor c quiet = IsQuiet c
 IsFor c (refused why) = MayRefuse c why
 
 -- one outcome for each command, and one that it may have
@@ -113,6 +131,7 @@ history_text place (a ∷ others) = answer_text place a.lane a.reply ++ history_
 abbrev pub refusals_text : ℕ → List Outcome → List ℕ
 refusals_text lane [] = []
 refusals_text lane (answered seq reply ∷ os) = refusals_text lane os
+refusals_text lane (quiet ∷ os) = refusals_text lane os
 refusals_text lane (refused why ∷ os) = refused_text lane why ++ refusals_text lane os
 
 abbrev pub lanes_refusals_text : ℕ → List (List Outcome) → List ℕ
@@ -120,6 +139,6 @@ lanes_refusals_text lane [] = []
 lanes_refusals_text lane (os ∷ oss) = refusals_text lane os ++ lanes_refusals_text (lane + 1) oss
 
 -- the lines of the answered commands by place, and then one for each refused command, by lane and then
--- by order in the script
+-- by order in the script; a quiet command has none
 abbrev pub record_text : Phases Command → RunRecord → List ℕ
 record_text s r = history_text 0 (history s r) ++ refusals_text 0 (r.setup ++ r.after) ++ lanes_refusals_text 1 r.lanes

@@ -36,7 +36,7 @@ module _ (bytes : Bytes) (none : HasNoComponent bytes) where
   unfolding directory_of
   slots = none_open 512 0 0 bytes (λ k low high. none k (omega (arith, high)))
 
-  no_components : primary_of bytes ≡ []
+  pub no_components : primary_of bytes ≡ []
   no_components = ap (λ (all : List NumberedSlot). newest_first (filter (λ e. e.1.index == PRIMARY) (live_slots all))) slots
 
   shut : (n : ℕ) → get_or (directory_of bytes) n None ≡ None

@@ -1,10 +1,9 @@
 -- Laws of the lists of calls that succeeded, and of the bytes at an earlier clock. No public contract needs them.
-use Rattle.std.proofs.Common.{◌≡◌, ℕ, suc, ◌+◌, ◌-◌, ◌≤◌, List, [], ◌∷◌, ◌++◌, length, drop, Option, Some, Result, Ok, Err, refl, sym, ◌∙◌, ap, subst, arith, inl, inr, append-nil, append_assoc}
-use Rattle.dev_model.specs.Story.{Call, Read, Write, Sync, FailedWrite, FailedCall, Calls, Story, clock_of, with_call, after, bytes_of, bytes_after, bytes_at, HasChangedNothing, HasFailed, HasStoppedIn, Did}
-use Rattle.dev_model.specs.DeviceCalls.{made_at, ok_calls, StopsWithin}
+use Rattle.std.proofs.Common.{◌≡◌, ℕ, suc, ◌+◌, ◌-◌, ◌≤◌, List, [], ◌∷◌, ◌++◌, length, drop, refl, ◌∙◌, ap, arith}
+use Rattle.dev_model.specs.Story.{Call, Read, Write, Sync, FailedWrite, FailedCall, Calls, Story, clock_of, with_call, after, bytes_of, bytes_after, bytes_at}
+use Rattle.dev_model.specs.DeviceCalls.{made_at, ok_calls}
 use Rattle.dev_model.specs.declared.calls.DeviceCall.{DeviceCall}
 use Rattle.dev_model.specs.declared.calls.DeviceAct.TheVariants.{ReadAt, WriteAt, SyncAll}
-use Rattle.dev_model.specs.Laws.Plans.{all_noted-told}
 
 pub clock_of-after : (s : Story) (calls : Calls) → clock_of (after s calls) ≡ clock_of s + length calls
 clock_of-after s [] = omega arith
@@ -29,56 +28,6 @@ ok_calls-append clock (call ∷ calls) more =
     by_call Sync rest = ap (λ (l : List DeviceCall). made_at (clock + 1) SyncAll ∷ l) rest
     by_call (FailedWrite at new) rest = rest
     by_call FailedCall rest = rest
-
--- a call that failed isn't among those that succeeded
-stops_here : (s : Story) (now : Option Story) (call : Call) (all : List DeviceCall) → HasFailed call (Some s) now → StopsWithin s now all
-stops_here s now (Read at count) all failed = nothing_done s now all failed
-  where
-    nothing_done : (s : Story) (now : Option Story) (all : List DeviceCall) → HasChangedNothing (Some s) now → StopsWithin s now all
-    nothing_done s now all (inl told) = record { calls = FailedCall ∷ []; told = told; left = all; made = refl }
-    nothing_done s now all (inr same) = record { calls = []; told = same; left = all; made = refl }
-stops_here s now (Write at bytes) all (inl failed) = record { calls = FailedWrite at bytes ∷ []; told = failed; left = all; made = refl }
-stops_here s now (Write at bytes) all (inr (inl told)) = record { calls = FailedCall ∷ []; told = told; left = all; made = refl }
-stops_here s now (Write at bytes) all (inr (inr same)) = record { calls = []; told = same; left = all; made = refl }
-stops_here s now Sync all (inl told) = record { calls = FailedCall ∷ []; told = told; left = all; made = refl }
-stops_here s now Sync all (inr same) = record { calls = []; told = same; left = all; made = refl }
-stops_here s now (FailedWrite at bytes) all failed = absurd failed
-stops_here s now FailedCall all failed = absurd failed
-
--- one call more in front
-ok_calls-call : (clock : ℕ) (call : Call) (calls more : Calls) (left : List DeviceCall) → ok_calls (clock + 1) more ≡ ok_calls (clock + 1) calls ++ left → ok_calls clock (call ∷ more) ≡ ok_calls clock (call ∷ calls) ++ left
-ok_calls-call clock (Read at count) calls more left rest = ap (λ (l : List DeviceCall). made_at (clock + 1) (ReadAt at count) ∷ l) rest
-ok_calls-call clock (Write at new) calls more left rest = ap (λ (l : List DeviceCall). made_at (clock + 1) (WriteAt at (length new)) ∷ l) rest
-ok_calls-call clock Sync calls more left rest = ap (λ (l : List DeviceCall). made_at (clock + 1) SyncAll ∷ l) rest
-ok_calls-call clock (FailedWrite at new) calls more left rest = rest
-ok_calls-call clock FailedCall calls more left rest = rest
-
-stopped : (s : Story) (now : Option Story) (plan : Calls) → HasStoppedIn plan (Some s) now → StopsWithin s now (ok_calls (clock_of s) plan)
-stopped s now [] is = absurd is
-stopped s now (call ∷ plan) (inl failed) = stops_here s now call (ok_calls (clock_of s) (call ∷ plan)) failed
-stopped s now (call ∷ plan) (inr later) =
-    let rest : StopsWithin (with_call s call) now (ok_calls (clock_of (with_call s call)) plan) = stopped (with_call s call) now plan later in
-    let e : suc (clock_of s) ≡ clock_of s + 1 = omega arith in
-    record {
-      calls = call ∷ rest.calls;
-      told = rest.told;
-      left = rest.left;
-      made = ok_calls-call (clock_of s) call rest.calls plan rest.left (λ j. (ap (λ (n : ℕ). ok_calls n plan) (sym e) ∙ rest.made ∙ ap (λ (n : ℕ). ok_calls n rest.calls ++ rest.left) e) j);
-    }
-
--- planned calls: those that succeeded are the first of them, and all where none failed
-pub StopsWithin-did : {X E : Type 0} (s : Story) (plan : Calls) (old now : Option Story) (r : Result X E) → old ≡ Some s → Did plan old now r → StopsWithin s now (ok_calls (clock_of s) plan)
-StopsWithin-did s plan old now (Ok x) told did = record { calls = plan; told = did ∙ all_noted-told s plan old told; left = []; made = sym (append-nil (ok_calls (clock_of s) plan)) }
-StopsWithin-did s plan old now (Err e) told did = stopped s now plan (subst (λ (o : Option Story). HasStoppedIn plan o now) told did)
-
--- the first of these calls are the first of these and more
-pub StopsWithin-more : (s : Story) (now : Option Story) (all more : List DeviceCall) → StopsWithin s now all → StopsWithin s now (all ++ more)
-StopsWithin-more s now all more stops = record {
-  calls = stops.calls;
-  told = stops.told;
-  left = stops.left ++ more;
-  made = ap (λ (l : List DeviceCall). l ++ more) stops.made ∙ append_assoc (ok_calls (clock_of s) stops.calls) stops.left more;
-}
 
 past-after : (s : Story) (calls : Calls) (more : ℕ) → drop (length calls + more) (after s calls).past ≡ drop more s.past
 past-after s [] more = let e : 0 + more ≡ more = omega arith in ap (λ (n : ℕ). drop n s.past) e

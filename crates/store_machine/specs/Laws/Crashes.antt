@@ -1,5 +1,5 @@
 -- How what each crash leaves goes on over a call of the device. No public contract needs these laws.
-use Rattle.std.proofs.Common.{◌≡◌, ◌⊎◌, inl, inr, ⊎_elim, ℕ, ◌+◌, ◌≤◌, List, [], ◌∷◌, ◌++◌, length, take, sym, ◌∙◌, ap, subst, arith, Option, Some}
+use Rattle.std.proofs.Common.{◌≡◌, inl, inr, ⊎_elim, ℕ, ◌+◌, ◌≤◌, List, [], ◌∷◌, ◌++◌, length, take, sym, ◌∙◌, ap, subst, arith, Option, Some}
 use Rattle.std.proofs.lemmas.List.{take-append-le, take_all, length_push}
 use Rattle.std.proofs.lemmas.Option.{same_Some}
 use Rattle.std.proofs.Math.Seq.{take-append_seam}
@@ -8,15 +8,12 @@ use Rattle.dev_model.specs.Moments.{EachMoment, LeavesOnly}
 use Rattle.dev_model.specs.Laws.Runs.{EachMoment-join, before_or_since}
 use Rattle.dev_model.specs.Laws.Images.{IsImage-now}
 use Rattle.table_model.specs.Table.{Table}
-use Rattle.image_model.specs.Recovered.{Recovers}
+use Rattle.component_image.specs.Recovered.{Recovers}
+use Rattle.component_image.specs.Resting.{RecoversEither}
 use Rattle.store_machine.specs.Machine.{Group, after_groups}
 use Rattle.store_machine.specs.Crash.{acked_by, Keeps, RecoversFirst}
 use Rattle.store_machine.specs.Standing.{AreUpTo}
 use Rattle.store_machine.specs.Laws.Counting.{acked_by-le, acked_by-all, acked_by-later, AreUpTo-push}
-
--- the table before a group, or after it
-abbrev pub RecoversEither : (pages : ℕ) (before now : Table) → Bytes → Type 0
-RecoversEither pages before now image = Recovers pages before image ⊎ Recovers pages now image
 
 module _ (pages : ℕ) (table : Table) (logged : List Group) (acks : List ℕ) (group : Group) (all : length acks ≡ length logged) where
   abbrev more : List Group

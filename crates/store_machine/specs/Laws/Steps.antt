@@ -1,15 +1,19 @@
 -- One event after another. No public contract needs these laws.
-use Rattle.std.proofs.Common.{◌≡◌, ℕ, ◌+◌, Bool, true, false, List, [], ◌∷◌, ◌++◌, length, refl, sym, ◌∙◌, ap, subst, arith, append_assoc, append-nil, Some}
+use Rattle.std.proofs.Common.{◌≡◌, ℕ, ◌+◌, Bool, true, false, List, [], ◌∷◌, ◌++◌, length, refl, sym, ◌∙◌, ap, subst, arith, append_assoc, append-nil, Option, Some, None, if◌then◌else◌}
 use Rattle.dev_model.specs.Story.{Story, Calls, after, clock_of}
+use Rattle.dev_model.specs.Moments.{EachMoment}
 use Rattle.dev_model.specs.DeviceCalls.{ok_calls}
 use Rattle.dev_model.specs.Laws.Runs.{after-append}
 use Rattle.dev_model.specs.Laws.CallLists.{ok_calls-append, clock_of-after}
 use Rattle.dev_model.specs.declared.calls.DeviceCall.{DeviceCall}
-use Rattle.table_model.specs.Table.{Table}
-use Rattle.store_machine.specs.Machine.{Machine, Opening, does, at_opening, after_event, after_all}
-use Rattle.store_machine.specs.Needs.{Needs}
-use Rattle.store_machine.specs.Runs.{IsRun, Allows, MakesCalls, is_fault}
-use Rattle.store_machine.specs.Standing.{StoreState, IsAtRest, Has, Tells, Stands, Adds, IsEventOf, Makes}
+use Rattle.table_model.specs.Table.{Table, rows_of}
+use Rattle.store_machine.specs.Crash.{attempted, Keeps}
+use Rattle.store_machine.specs.Laws.Counting.{AreUpTo-later}
+use Rattle.store_machine.specs.Machine.{Group, Machine, Opening, does, group_of, at_opening, after_event, after_all}
+use Rattle.kept_state.specs.Keeping.{IsKept}
+use Rattle.kept_state.specs.Reading.{IsLegible}
+use Rattle.store_machine.specs.Runs.{IsRun, Allows}
+use Rattle.store_machine.specs.Standing.{StoreState, Begins, Has, Tells, Stands, Adds, IsEventOf, Makes}
 use Rattle.store_machine.specs.declared.events.Action.{Action}
 use Rattle.store_machine.specs.declared.events.Event.{Event}
 
@@ -58,78 +62,6 @@ makes old new owner action e is opened_at opened_faults step =
           };
     }
 
--- a call that makes no device call
-abbrev pub still_event : StoreState → (owner : ℕ) → Action → Event
-still_event s owner action = record { owner = Some owner; action = action; device_calls = []; write_failed = false; faults_before = s.device.faults; faults_after = s.device.faults; clock_after = s.device.clock }
-
-still_step : (known : Bool) (o : Opening) (s : StoreState) (seq owner : ℕ) (action : Action) (table : Table) (m : Machine)
-    → does action m ≡ record m { seq = seq; table = table }
-    → (known ≡ true → table ≡ m.table)
-    → is_fault action ≡ false
-    → MakesCalls m action []
-    → Has s m → (known ≡ true → Tells o s m) → Needs known m action
-    → Step known o (record s { seq = seq }) m (still_event s owner action)
-still_step known o s seq owner action table m same same_table no_fault none has tells needs =
-    let n : Machine = record m { seq = seq; table = table; faults = s.device.faults; clock = s.device.clock; device_calls = m.device_calls ++ [] } in
-    let is : n ≡ after_event m (still_event s owner action) = ap (λ (k : Machine). record k { faults = s.device.faults; clock = s.device.clock; device_calls = m.device_calls ++ [] }) (sym same) in
-    record {
-      allows = record {
-        needs = needs;
-        calls = λ _. none;
-        stops = sym no_fault;
-        later = omega (arith, has.faults);
-        faults = omega arith;
-        cause = λ fault. absurd (let e : true ≡ false = sym fault ∙ no_fault in cc);
-        time = omega (arith, has.clock);
-      };
-      has = subst (λ (k : Machine). Has (record s { seq = seq }) k) is
-          (record {
-            stopped = has.stopped;
-            seq = refl;
-            next_lsn = has.next_lsn;
-            operations = has.operations;
-            acks = has.acks;
-            declared = has.declared;
-            faults = refl;
-            clock = refl;
-            counted = has.counted;
-            running = has.running;
-          });
-      tells = λ is_known.
-          let t : Tells o s m = tells is_known in
-          let table_is : table ≡ m.table = same_table is_known in
-          subst (λ (k : Machine). Tells o (record s { seq = seq }) k) is
-          (record {
-            opening = t.opening;
-            begins = t.begins;
-            calls = t.calls;
-            now = t.now;
-            went = t.went;
-            told = t.told;
-            clock = t.clock;
-            made = t.made ∙ sym (append-nil m.device_calls);
-            table = t.table ∙ sym table_is;
-            replayed = table_is ∙ t.replayed;
-            at_rest = λ going. subst (λ (k : Table). IsAtRest s.device.pages s.log k t.now) (sym table_is) (t.at_rest going);
-            acked = t.acked;
-            survives = t.survives;
-          });
-    }
-
--- An event without a device call. It may draw the next number, and leave the table by another name.
-pub still : (s : StoreState) (seq owner : ℕ) (action : Action) (change : Table → Table)
-    → ((m : Machine) → Has s m → does action m ≡ record m { seq = seq; table = change m.table })
-    → ((o : Opening) (m : Machine) → Tells o s m → change m.table ≡ m.table)
-    → is_fault action ≡ false
-    → ((m : Machine) → MakesCalls m action [])
-    → ((known : Bool) (o : Opening) (m : Machine) → Has s m → (known ≡ true → Tells o s m) → Needs known m action)
-    → Makes s (record s { seq = seq }) owner action
-still s seq owner action change same same_table no_fault none needs =
-    makes s (record s { seq = seq }) owner action (still_event s owner action)
-    (record { owner_is = refl; action_is = refl; before_it = refl; after_it = refl; time = refl })
-    refl refl
-    (λ known o m has tells. still_step known o s seq owner action (change m.table) m (same m has) (λ is. same_table o m (tells is)) no_fault (none m) has tells (needs known o m has tells))
-
 -- the story of the store goes on by some calls
 pub goes_on : (o : Opening) (old : StoreState) (m : Machine) (t : Tells o old m) (calls : Calls) (made : List DeviceCall) → ok_calls (clock_of t.now) calls ≡ made
     → (after t.now calls ≡ after t.opening (t.calls ++ calls)) × (ok_calls (clock_of t.opening) (t.calls ++ calls) ≡ m.device_calls ++ made)
@@ -140,3 +72,134 @@ goes_on o old m t calls made is = (
       ∙ (λ j. t.made j ++ ok_calls (clock j) calls)
       ∙ ap (λ (l : List DeviceCall). m.device_calls ++ l) is,
 )
+
+-- the event of a call
+abbrev pub event_of : (old new : StoreState) (owner : ℕ) → Action → (made : List DeviceCall) (failed : Bool) → Event
+event_of old new owner action made failed = record {
+  owner = Some owner;
+  action = action;
+  device_calls = made;
+  write_failed = failed;
+  faults_before = old.device.faults;
+  faults_after = new.device.faults;
+  clock_after = new.device.clock;
+}
+
+-- What a call that leaves the table does to the store: which of its numbers and lists change.
+pub record Changes (old new : StoreState) (action : Action) (failed : Bool) : Type 0 where
+  pub opened_at : new.opened_at ≡ old.opened_at
+  pub opened_faults : new.opened_faults ≡ old.opened_faults
+  pub declared : new.declared ≡ old.declared
+  pub acks : new.acks ≡ old.acks
+  pub pages : new.device.pages ≡ old.device.pages
+  pub stopped : new.stopped ≡ (if failed then Some new.device.faults else old.stopped)
+  -- only a store that nothing had stopped is stopped, and no group was being logged then
+  pub running : failed ≡ true → old.stopped ≡ None
+  pub group : failed ≡ true → group_of action ≡ None
+  -- what it makes of the table, which is the same by another name
+  pub table : Table → Table
+  pub done : (m : Machine) → Has old m → does action m ≡ record m { seq = new.seq; log = new.log; lists = new.lists; table = table m.table }
+
+-- Where the device told, what a call that leaves the table leaves there: the calls that it made, and after them what the lists need,
+-- and what each crash since the opening leaves.
+pub record GoesOn (o : Opening) (old new : StoreState) (m : Machine) (t : Tells o old m) (made : List DeviceCall) : Type 0 where
+  pub calls : Calls
+  pub told : new.device.story ≡ Some (after t.now calls)
+  pub made_is : ok_calls (clock_of t.now) calls ≡ made
+  pub clock : new.device.clock ≡ clock_of (after t.now calls)
+  pub kept : new.stopped ≡ None → IsKept old.device.pages new.log m.table new.lists (after t.now calls)
+  pub legible : IsLegible m.table new.lists (after t.now calls)
+  pub rows : new.lists.rows ≡ length (rows_of m.table)
+  pub survives : EachMoment (clock_of t.opening) (after t.now calls) (Keeps old.device.pages o.table (attempted m.logged m.unfinished) m.acks)
+
+module _ (old new : StoreState) (owner : ℕ) (action : Action) (made : List DeviceCall) (failed : Bool) (change : Changes old new action failed) where
+  abbrev event : Event
+  event = event_of old new owner action made failed
+
+  -- the machine after it
+  abbrev next : Machine → Machine
+  next m = record m {
+    table = change.table m.table;
+    seq = new.seq;
+    log = new.log;
+    lists = new.lists;
+    stopped = if failed then Some new.device.faults else m.stopped;
+    unfinished = if failed then group_of action else m.unfinished;
+    faults = new.device.faults;
+    clock = new.device.clock;
+    device_calls = m.device_calls ++ made;
+  }
+
+  next-is : (m : Machine) → Has old m → next m ≡ after_event m event
+  next-is m has =
+      ap (λ (n : Machine). record n {
+        stopped = if failed then Some new.device.faults else n.stopped;
+        unfinished = if failed then group_of action else n.unfinished;
+        faults = new.device.faults;
+        clock = new.device.clock;
+        device_calls = m.device_calls ++ made;
+      }) (sym (change.done m has))
+
+  -- no group was being logged
+  unfinished-same : (m : Machine) → Has old m → (if failed then group_of action else m.unfinished) ≡ m.unfinished
+  unfinished-same m has = by_test failed refl
+    where
+      by_test : (b : Bool) → failed ≡ b → (if b then group_of action else m.unfinished) ≡ m.unfinished
+      by_test true is = change.group is ∙ sym (has.running (sym has.stopped ∙ change.running is))
+      by_test false is = refl
+
+  next-has : (m : Machine) → Has old m → Has new (next m)
+  next-has m has = record {
+    stopped = change.stopped ∙ ap (λ (x : Option ℕ). if failed then Some new.device.faults else x) has.stopped;
+    seq = refl;
+    log = refl;
+    lists = refl;
+    acks = change.acks ∙ has.acks;
+    declared = change.declared ∙ has.declared;
+    faults = refl;
+    clock = refl;
+    counted = has.counted;
+    running = by_test failed refl;
+  }
+    where
+      by_test : (b : Bool) → failed ≡ b → (if failed then Some new.device.faults else m.stopped) ≡ None → (if failed then group_of action else m.unfinished) ≡ None
+      by_test true is going = absurd (let none : ◌≡◌ {A = Option ℕ} (Some new.device.faults) None = ap (λ (b : Bool). if b then Some new.device.faults else m.stopped) (sym is) ∙ going in cc)
+      by_test false is going =
+          ap (λ (b : Bool). if b then group_of action else m.unfinished) is
+          ∙ has.running (ap (λ (b : Bool). if b then Some new.device.faults else m.stopped) (sym is) ∙ going)
+
+  next-tells : (o : Opening) (m : Machine) → Has old m → (t : Tells o old m) → GoesOn o old new m t made → change.table m.table ≡ m.table → Tells o new (next m)
+  next-tells o m has t goes same =
+      let calls : _ = goes_on o old m t goes.calls made goes.made_is in
+      subst (λ (x : Table). Tells o new (record (next m) { table = x })) (sym same)
+      (record {
+        opening = t.opening;
+        begins = subst (λ (p : ℕ). Begins o p t.opening) (sym change.pages) t.begins;
+        calls = t.calls ++ goes.calls;
+        now = after t.now goes.calls;
+        went = calls.0;
+        told = goes.told;
+        clock = goes.clock;
+        made = calls.1;
+        replayed = t.replayed;
+        kept = λ going. subst (λ (p : ℕ). IsKept p new.log m.table new.lists (after t.now goes.calls)) (sym change.pages)
+            (goes.kept (change.stopped ∙ ap (λ (x : Option ℕ). if failed then Some new.device.faults else x) has.stopped ∙ going));
+        legible = goes.legible;
+        rows = goes.rows;
+        acked = AreUpTo-later (clock_of t.now) (clock_of (after t.now goes.calls)) m.acks (omega (arith, clock_of-after t.now goes.calls)) t.acked;
+        survives = subst (λ (p : ℕ). EachMoment (clock_of t.opening) (after t.now goes.calls) (Keeps p o.table (attempted m.logged (if failed then group_of action else m.unfinished)) m.acks)) (sym change.pages)
+            (subst (λ (g : Option Group). EachMoment (clock_of t.opening) (after t.now goes.calls) (Keeps old.device.pages o.table (attempted m.logged g) m.acks)) (sym (unfinished-same m has)) goes.survives);
+      })
+
+  -- a call that leaves the table makes its event
+  pub passes : ((known : Bool) (o : Opening) (m : Machine) → Has old m → (known ≡ true → Tells o old m) → Allows known m event)
+      → ((o : Opening) (m : Machine) → Has old m → (t : Tells o old m) → GoesOn o old new m t made)
+      → ((o : Opening) (m : Machine) → Has old m → (t : Tells o old m) → change.table m.table ≡ m.table)
+      → Makes old new owner action
+  passes allows goes same =
+      makes old new owner action event (record { owner_is = refl; action_is = refl; before_it = refl; after_it = refl; time = refl }) change.opened_at change.opened_faults
+      (λ known o m has tells. record {
+        allows = allows known o m has tells;
+        has = subst (λ (n : Machine). Has new n) (next-is m has) (next-has m has);
+        tells = λ is_known. subst (λ (n : Machine). Tells o new n) (next-is m has) (next-tells o m has (tells is_known) (goes o m has (tells is_known)) (same o m has (tells is_known)));
+      })

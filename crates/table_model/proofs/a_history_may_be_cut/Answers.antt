@@ -1,14 +1,14 @@
 use Rattle.std.proofs.Common.{◌≡◌, List, [], ◌∷◌, ◌++◌, ap, refl}
 use Rattle.table_model.specs.Table.{Table}
-use Rattle.table_model.specs.Commands.{Command}
+use Rattle.table_model.specs.Commands.{TableCommand}
 use Rattle.table_model.specs.Answers.{replay, replies, reply_to, table_after}
 use Rattle.table_model.proofs.a_history_may_be_cut.Goals as goal
 
-tables : (t : Table) (cs ds : List Command) → replay t (cs ++ ds) ≡ replay (replay t cs) ds
+tables : (t : Table) (cs ds : List TableCommand) → replay t (cs ++ ds) ≡ replay (replay t cs) ds
 tables t [] ds = refl
 tables t (c ∷ cs) ds = tables (table_after t c) cs ds
 
-both : (t : Table) (cs ds : List Command) → replies t (cs ++ ds) ≡ replies t cs ++ replies (replay t cs) ds
+both : (t : Table) (cs ds : List TableCommand) → replies t (cs ++ ds) ≡ replies t cs ++ replies (replay t cs) ds
 both t [] ds = refl
 both t (c ∷ cs) ds = ap (λ rs. reply_to t c ∷ rs) (both (table_after t c) cs ds)
 

@@ -40,3 +40,12 @@ returns-clause-no_outcome c = λ fits. fits.setup
 
 pub returns-clause-wrong_order : goal.returns-clause-wrong_order
 returns-clause-wrong_order c = λ fits. absurd (omega (arith, fits.setup_rises.0))
+
+pub returns-clause-answered_flush : goal.returns-clause-answered_flush
+returns-clause-answered_flush c = λ fits. fits.setup.0
+
+pub returns-clause-damaged_flush : goal.returns-clause-damaged_flush
+returns-clause-damaged_flush c = λ fits. fits.setup.0
+
+pub returns-clause-quiet_get : goal.returns-clause-quiet_get
+returns-clause-quiet_get c = λ fits. fits.setup.0

@@ -3,7 +3,12 @@ use Rattle.script_lang.specs.Views.{phases_of}
 use Rattle.store_core.specs.Stores.{state_of, device_of}
 use Rattle.spatial_run.specs.Views.{ending_of}
 use Rattle.spatial_run.proofs.Ends.{run-end}
+use Rattle.spatial_run.proofs.Making.{serving-opened}
 use Rattle.spatial_run.proofs.device.run_script.Goals as goal
+
+pub run_on-requires-clause-serving : goal.run_on-requires-clause-serving
+run_on-requires-clause-serving g c =
+    serving-opened (device_of g.D.Device.pages g.D.Device.clock g.D.Device.fault_count g.D.Device.story c.args.device) (state_of g.D.Device.pages g.D.Device.clock g.D.Device.fault_count g.D.Device.story c.in-Ok.store) c.in-Ok.ensures.stands c.in-Ok.ensures.ready c.in-Ok.ensures.idle
 
 pub returns-in-Ok-clause-end : goal.returns-in-Ok-clause-end
 returns-in-Ok-clause-end g c =

@@ -1,10 +1,24 @@
-use Rattle.std.proofs.Common.{ap}
-use Rattle.store_core.specs.Stores.{state_of}
-use Rattle.store_core.proofs.Answering.{got, if_some}
+use Rattle.std.proofs.Common.{ap, sym, subst, Err}
+use Rattle.store_machine.specs.Standing.{DeviceState, StoreState, Makes}
+use Rattle.store_machine.specs.declared.events.Refusal.{Refusal}
+use Rattle.store_machine.specs.declared.events.Action.TheVariants.{Get}
+use Rattle.store_core.specs.Stores.{state_of, device_of}
+use Rattle.store_core.proofs.Answering.{got-as, got-refused, reads-row}
 use Rattle.store_core.proofs.store.Store.get.Goals as goal
 
-pub returns-clause-event : goal.returns-clause-event
-returns-clause-event g c =
-    got (state_of g.D.Device.pages g.D.Device.clock g.D.Device.fault_count g.D.Device.story c.args.self.now) _ c.args.owner c.args.key (record { seq = c.draw-seq.result; row = c.row-row.result })
-    (ap (state_of g.D.Device.pages g.D.Device.clock g.D.Device.fault_count g.D.Device.story) c.draw-seq.ensures.rest) c.draw-seq.ensures.seq
-    (λ row is. if_some c.row-row.result row c.args.key c.row-row.ensures.key_is is) c.row-row.ensures.place
+pub returns-in-Ok-clause-event : goal.returns-in-Ok-clause-event
+returns-in-Ok-clause-event g c =
+    let old : StoreState = state_of g.D.Device.pages g.D.Device.clock g.D.Device.fault_count g.D.Device.story c.args.self.now in
+    let now : DeviceState = device_of g.D.Device.pages g.D.Device.clock g.D.Device.fault_count g.D.Device.story c.read_row.new.device in
+    got-as old _ now c.args.owner c.args.key c.draw-seq.result c.in-Ok.row c.in-Ok.ensures.asked.0 c.draw-seq.ensures.seq
+    (ap (state_of g.D.Device.pages g.D.Device.clock g.D.Device.fault_count g.D.Device.story) c.draw-seq.ensures.rest)
+    (reads-row old now c.args.key _ c.in-Ok.ensures.asked.0 c.in-Ok.ensures.asked.1 c.in-Ok.ensures.asked.3 c.in-Ok.ensures.stays c.in-Ok.ensures.same_pages c.in-Ok.ensures.later (λ s is. g.met.D.Device.clock_told _ s is) c.in-Ok.ensures.row)
+
+pub returns-in-Err-clause-event : goal.returns-in-Err-clause-event
+returns-in-Err-clause-event g c =
+    let old : StoreState = state_of g.D.Device.pages g.D.Device.clock g.D.Device.fault_count g.D.Device.story c.args.self.now in
+    let now : DeviceState = device_of g.D.Device.pages g.D.Device.clock g.D.Device.fault_count g.D.Device.story c.read_row.new.device in
+    subst (λ (r : Refusal). Makes old (record old { device = now }) c.args.owner (Get c.args.key (Err r))) (sym c.refused.ensures)
+    (got-refused old now c.args.owner c.args.key c.in-Err.fault c.in-Err.ensures.asked.0
+    (reads-row old now c.args.key _ c.in-Err.ensures.asked.0 c.in-Err.ensures.asked.1 c.in-Err.ensures.asked.3 c.in-Err.ensures.stays c.in-Err.ensures.same_pages c.in-Err.ensures.later (λ s is. g.met.D.Device.clock_told _ s is) c.in-Err.ensures.row)
+    c.in-Err.ensures.failed c.in-Err.ensures.needs_no_memory)

@@ -1,21 +1,35 @@
-use Rattle.std.proofs.Common.{ap, sym, ◌∙◌}
-use Rattle.store_core.specs.Stores.{state_of}
-use Rattle.store_core.proofs.Answering.{found, no_index, no_memory}
+use Rattle.std.proofs.Common.{ap, refl, sym, ◌∙◌}
+use Rattle.store_core.specs.Regions.{records_in}
+use Rattle.table_model.specs.Table.{rows_inside}
+use Rattle.store_core.specs.Stores.{state_of, device_of}
+use Rattle.store_core.proofs.Regions.{found, no-index, no-memory, not-read, sound-rows, read-facts}
 use Rattle.store_core.proofs.store.Store.region.Goals as goal
 
 pub returns-then-not-has-clause-event : goal.returns-then-not-has-clause-event
 returns-then-not-has-clause-event g c =
-    no_index (state_of g.D.Device.pages g.D.Device.clock g.D.Device.fault_count g.D.Device.story c.args.self.now) c.args.owner c.args.kind c.args.rect.now
-    (sym c.has.ensures ∙ c.if-not-has.true)
+    no-index (state_of g.D.Device.pages g.D.Device.clock g.D.Device.fault_count g.D.Device.story c.args.self.now) c.args.owner c.args.kind c.args.rect.now (sym c.has.ensures ∙ c.if-not-has.true)
 
 pub returns-in-Err-clause-event : goal.returns-in-Err-clause-event
 returns-in-Err-clause-event g c =
-    no_memory (state_of g.D.Device.pages g.D.Device.clock g.D.Device.fault_count g.D.Device.story c.args.self.now) c.args.owner c.args.kind c.args.rect.now
-    (sym c.has.ensures ∙ c.if-not-has.false)
+    not-read (state_of g.D.Device.pages g.D.Device.clock g.D.Device.fault_count g.D.Device.story c.args.self.now)
+    (device_of g.D.Device.pages g.D.Device.clock g.D.Device.fault_count g.D.Device.story c.read_rows.new.device) c.in-Err.fault c.refused.result c.in-Err.ensures.asked.0 c.args.owner c.args.kind c.args.rect.now
+    (read-facts _ _ _ c.in-Err.ensures.asked.0 c.in-Err.ensures.asked.1 c.in-Err.ensures.asked.3 c.in-Err.ensures.stays c.in-Err.ensures.same_pages c.in-Err.ensures.later (g.met.D.Device.clock_told c.read_rows.new.device))
+    (λ table s is legible. sound-rows c.in-Err.fault (c.in-Err.ensures.rows table s is legible))
+    c.in-Err.ensures.failed (sym c.has.ensures ∙ c.if-not-has.false) c.refused.ensures
 
-pub returns-in-Ok-clause-event : goal.returns-in-Ok-clause-event
-returns-in-Ok-clause-event g c =
-    found (state_of g.D.Device.pages g.D.Device.clock g.D.Device.fault_count g.D.Device.story c.args.self.now) _ c.args.owner c.args.kind c.args.rect.now
-    (record { seq = c.draw-seq.result; rows = c.in-Ok.rows.items })
+pub returns-in-Ok-inside-clause-event : goal.returns-in-Ok-inside-clause-event
+returns-in-Ok-inside-clause-event g c =
+    found (state_of g.D.Device.pages g.D.Device.clock g.D.Device.fault_count g.D.Device.story c.args.self.now) _
+    (device_of g.D.Device.pages g.D.Device.clock g.D.Device.fault_count g.D.Device.story c.read_rows.new.device) _ c.in-Ok.ensures.asked.0 c.args.owner c.args.kind c.args.rect.now c.in-Ok.rows.items
+    (record { seq = c.draw-seq.result; rows = c.in-Ok-inside.rows.items })
+    (read-facts _ _ _ c.in-Ok.ensures.asked.0 c.in-Ok.ensures.asked.1 c.in-Ok.ensures.asked.3 c.in-Ok.ensures.stays c.in-Ok.ensures.same_pages c.in-Ok.ensures.later (g.met.D.Device.clock_told c.read_rows.new.device))
+    c.in-Ok.ensures.rows (sym c.has.ensures ∙ c.if-not-has.false) c.draw-seq.ensures.seq
+    (c.in-Ok-inside.ensures ∙ ap (λ rows. rows_inside c.args.rect.now (records_in rows)) c.deref.ensures.value)
     (ap (state_of g.D.Device.pages g.D.Device.clock g.D.Device.fault_count g.D.Device.story) c.draw-seq.ensures.rest)
-    (sym c.has.ensures ∙ c.if-not-has.false) c.draw-seq.ensures.seq c.in-Ok.ensures
+
+pub returns-clause-event : goal.returns-clause-event
+returns-clause-event g c =
+    no-memory (state_of g.D.Device.pages g.D.Device.clock g.D.Device.fault_count g.D.Device.story c.args.self.now)
+    (device_of g.D.Device.pages g.D.Device.clock g.D.Device.fault_count g.D.Device.story c.read_rows.new.device) _ c.in-Ok.ensures.asked.0 c.args.owner c.args.kind c.args.rect.now
+    (read-facts _ _ _ c.in-Ok.ensures.asked.0 c.in-Ok.ensures.asked.1 c.in-Ok.ensures.asked.3 c.in-Ok.ensures.stays c.in-Ok.ensures.same_pages c.in-Ok.ensures.later (g.met.D.Device.clock_told c.read_rows.new.device))
+    refl (sym c.has.ensures ∙ c.if-not-has.false)

@@ -1,6 +1,0 @@
-pub mod Crash
-pub mod Laws
-pub mod Machine
-pub mod Needs
-pub mod Runs
-pub mod Standing

@@ -1,5 +1,0 @@
-mod Answering
-mod Found
-mod Regions
-mod WorkEvents
-mod WriteEvents

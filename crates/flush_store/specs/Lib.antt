@@ -1,5 +1,0 @@
-pub mod Begun
-pub mod Refusals
-pub mod Regions
-pub mod Stores
-pub mod Writing

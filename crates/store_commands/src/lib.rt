@@ -1,0 +1,10 @@
+//! The commands of one owner on a store: each makes its own event, and the upkeep that it needs or that is due after it.
+#![tactic(auto)]
+
+mod answers;
+mod upkeep;
+mod writes;
+
+pub use answers::{count, get, region};
+pub use upkeep::{FLUSH_AT, flush};
+pub use writes::write;

@@ -1,0 +1,324 @@
+-- The events of freezes, jobs and installs.
+use Rattle.std.proofs.Common.{◌≡◌, ◌≢◌, ◌⊎◌, inl, inr, ℕ, suc, ◌+◌, ◌-◌, ◌*◌, ◌<◌, ◌≤◌, Bool, true, false, List, [], ◌∷◌, ◌++◌, length, Option, Some, None, Ok, Err, is_some, refl, sym, ◌∙◌, ap, subst, arith}
+use Rattle.std.proofs.lemmas.List.{length-append}
+use Rattle.std.proofs.lemmas.Option.{same_Some}
+use Rattle.dev_model.specs.Counts.{Rose}
+use Rattle.dev_model.specs.Story.{Calls, HasStoppedIn, Story, WhereTold, Write, all_noted, clock_of}
+use Rattle.dev_model.specs.DeviceCalls.{made_at, ok_calls}
+use Rattle.dev_model.specs.declared.calls.DeviceCall.{DeviceCall}
+use Rattle.dev_model.specs.declared.calls.DeviceAct.TheVariants.{WriteAt}
+use Rattle.page_codec.specs.declared.pages.TheConstants.{PAGE_BYTES}
+use Rattle.table_model.specs.Table.{Table}
+use Rattle.wal_log.specs.State.{turn_calls}
+use Rattle.wal_log.specs.declared.log.Log.{Log}
+use Rattle.comp_dir.specs.State.{install_calls}
+use Rattle.build_job.specs.Jobs.{Job, described, steps_left}
+use Rattle.store_machine.specs.Standing.{DeviceState, StoreState, Has, Makes, Tells}
+use Rattle.store_machine.specs.declared.events.Refusal.TheVariants.{Fault, Stopped}
+use Rattle.store_state.specs.Beginning.{Begins, IsRefused, MayBegin, fresh}
+use Rattle.store_state.specs.Lists.{IsJobOf, IsLists, IsPlanned, IsPlannedIf, Lists, job_of}
+use Rattle.store_state.specs.Steps.{begun, frozen_at, installed, one_written}
+use Rattle.store_state.specs.declared.faults.BeginFault.{BeginFault}
+use Rattle.store_state.specs.declared.faults.BeginFault.TheVariants as begin
+use Rattle.store_state.specs.declared.jobs.JobRow.{JobRow}
+use Rattle.kept_state.specs.Keeping.{IsKept}
+use Rattle.kept_state.specs.Reading.{IsLegible}
+use Rattle.store_machine.specs.Machine.{Machine, Opening, does, log_turned}
+use Rattle.store_machine.specs.Needs.{IsWriting, IsWrittenOut, MayFreeze, Needs, RefusesBegin}
+use Rattle.store_machine.specs.Runs.{Acknowledges, IsFront, IsOwned, MakesCalls, Stops, is_fault}
+use Rattle.store_machine.specs.Laws.Events.{Owes, still-event, stays-go_on, works-event, fails-event}
+use Rattle.store_machine.specs.Laws.LogCalls.{IsPlan-turn}
+use Rattle.store_machine.specs.Laws.Working.{LeavesTable, WorkFails, stays-there, stopped_calls, stopped_state}
+use Rattle.store_machine.specs.declared.events.Action.{Action}
+use Rattle.store_machine.specs.declared.events.Action.TheVariants.{Begin, Freeze, Install, JobWrite}
+use Rattle.store_core.specs.Begun.{begin_of}
+use Rattle.store_core.specs.Refusals.{refusal_of_begin}
+
+-- the machine by the names of the store
+renamed : (old : StoreState) (m : Machine) → Has old m → m ≡ record m { seq = old.seq; log = old.log; lists = old.lists; table = m.table }
+renamed old m has i = record m { seq = sym has.seq i; log = sym has.log i; lists = sym has.lists i; table = m.table }
+
+-- a call that changes nothing, and makes no device call
+nothing : (s : StoreState) (owner : ℕ) (a : Action) → IsOwned a (Some owner) → Acknowledges a s.device.clock → Stops a false → is_fault a ≡ false
+    → ((m : Machine) → does a m ≡ m) → ((m : Machine) → MakesCalls m a false []) → ((known : Bool) (m : Machine) → Has s m → Needs known m a) → Makes s s owner a
+nothing s owner a owned acks stops no_fault same none needs =
+    still-event s s.lists s.seq owner a
+    (record {
+      needs = λ known o m has tells. needs known m has;
+      owned = owned;
+      acks = acks;
+      stops = stops;
+      faults = omega arith;
+      cause = λ fault. absurd (let no : true ≡ false = sym fault ∙ no_fault in cc);
+      time = omega arith;
+    })
+    (λ m has. same m ∙ renamed s m has)
+    no_fault none
+    (stays-go_on s s.seq)
+
+-- what a step on the device shows of it, whether it was answered or failed
+pub record IsStep (old : StoreState) (now : DeviceState) : Type 0 where
+  pub going : old.stopped ≡ None
+  pub pages : now.pages ≡ old.device.pages
+  pub leaves : LeavesTable old now
+  pub faults : old.device.faults ≤ now.faults
+  pub time : old.device.clock ≤ now.clock
+
+-- what is owed of a step that was answered, and of one that failed
+answered : (old : StoreState) (now : DeviceState) (owner : ℕ) (a : Action) → IsStep old now → IsOwned a (Some owner) → Acknowledges a now.clock → Stops a false → is_fault a ≡ false
+    → ((known : Bool) (m : Machine) → Has old m → Needs known m a) → Owes old now owner a false
+answered old now owner a step owned acks stops no_fault needs = record {
+  needs = λ known o m has tells. needs known m has;
+  owned = owned;
+  acks = acks;
+  stops = stops;
+  faults = step.faults;
+  cause = λ fault. absurd (let no : true ≡ false = sym fault ∙ no_fault in cc);
+  time = step.time;
+}
+
+failed : (old : StoreState) (now : DeviceState) (owner : ℕ) (a : Action) → IsStep old now → IsOwned a (Some owner) → Acknowledges a now.clock → Stops a true → Rose old.device.faults now.faults
+    → ((known : Bool) (m : Machine) → Has old m → Needs known m a) → Owes old now owner a true
+failed old now owner a step owned acks stops rose needs = record {
+  needs = λ known o m has tells. needs known m has;
+  owned = owned;
+  acks = acks;
+  stops = stops;
+  faults = step.faults;
+  cause = λ _. rose;
+  time = step.time;
+}
+
+-- the clock of the story is that of the machine
+same-clock : (o : Opening) (old : StoreState) (m : Machine) → Has old m → (t : Tells o old m) → clock_of t.now ≡ m.clock
+same-clock o old m has t = sym t.clock ∙ has.clock
+
+pub some-there : {X : Type 0} (o : Option X) → is_some o ≡ true → o ≢ None
+some-there None is = absurd (let no : false ≡ true = is in cc)
+some-there {X} (Some x) is = λ none. absurd (let no : ◌≡◌ {A = Option X} (Some x) None = none in cc)
+
+pub none-there : {X : Type 0} (o : Option X) → is_some o ≡ false → o ≡ None
+none-there None is = refl
+none-there (Some x) is = absurd (let no : true ≡ false = is in cc)
+
+-- a list may be frozen
+pub record MayTurn (old : StoreState) (least : ℕ) : Type 0 where
+  pub going : old.stopped ≡ None
+  pub enough : least ≤ old.log.records
+  pub some : 1 ≤ old.log.records
+  pub none_waits : old.lists.frozen ≡ None
+
+may-freeze : (old : StoreState) (least : ℕ) → MayTurn old least → (m : Machine) → Has old m → MayFreeze m least
+may-freeze old least may m has = record {
+  going = sym has.stopped ∙ may.going;
+  enough = subst (λ (l : Log). least ≤ l.records) has.log may.enough;
+  some = subst (λ (l : Log). 1 ≤ l.records) has.log may.some;
+  none_waits = ap (λ (l : Lists). l.frozen) (sym has.lists) ∙ may.none_waits;
+}
+
+pub freeze-stopped : (s : StoreState) (owner least faults : ℕ) → s.stopped ≡ Some faults → Makes s s owner (Freeze least (Err (Stopped faults)))
+freeze-stopped s owner least faults is =
+    nothing s owner (Freeze least (Err (Stopped faults))) tt tt refl refl (λ m. refl) (λ m. refl) (λ known m has. sym has.stopped ∙ is)
+
+pub not-frozen : (s : StoreState) (owner least : ℕ) → s.stopped ≡ None → (s.log.records < least) ⊎ (s.lists.frozen ≢ None) → Makes s s owner (Freeze least (Ok false))
+not-frozen s owner least going why =
+    nothing s owner (Freeze least (Ok false)) tt tt refl refl (λ m. refl) (λ m. refl) (λ known m has. (sym has.stopped ∙ going, there m has why))
+  where
+    there : (m : Machine) → Has s m → (s.log.records < least) ⊎ (s.lists.frozen ≢ None) → (m.log.records < least) ⊎ (m.lists.frozen ≢ None)
+    there m has (inl few) = inl (subst (λ (l : Log). l.records < least) has.log few)
+    there m has (inr waits) = inr (subst (λ (l : Lists). l.frozen ≢ None) has.lists waits)
+
+pub froze : (old : StoreState) (now : DeviceState) (log : Log) (lists : Lists) (owner least : ℕ) → IsStep old now → MayTurn old least
+    → now.story ≡ all_noted (turn_calls old.log) old.device.story
+    → ((table : Table) → WhereTold old.device.story (λ s. IsKept old.device.pages old.log table old.lists s → WhereTold now.story (IsKept old.device.pages log table lists)))
+    → log ≡ log_turned old.log → lists ≡ frozen_at (old.log.next_lsn - 1) old.lists
+    → Makes old (record old { device = now; log = log; lists = lists }) owner (Freeze least (Ok true))
+froze old now log lists owner least step may did kept log_is lists_is =
+    works-event old now log lists (turn_calls old.log) owner (Freeze least (Ok true)) step.pages
+    (record { going = step.going; leaves = step.leaves; planned = IsPlan-turn old.log; did = did; kept = kept; rows = ap (λ (l : Lists). l.rows) lists_is })
+    (answered old now owner (Freeze least (Ok true)) step tt tt refl refl (λ known m has. may-freeze old least may m has))
+    (λ m has.
+    (λ i. record m { seq = sym has.seq i; log = log_turned (sym has.log i); lists = frozen_at ((sym has.log i).next_lsn - 1) (sym has.lists i); table = m.table })
+    ∙ (λ i. record m { seq = old.seq; log = sym log_is i; lists = sym lists_is i; table = m.table }))
+    refl (λ m has. λ i. ok_calls (has.clock i) (turn_calls (has.log i)))
+
+-- a step that failed leaves all but the device, and stops the store
+pub after-stop : (old new : StoreState) (now : DeviceState) (log : Log) (lists : Lists) → log ≡ old.log → lists ≡ old.lists
+    → new ≡ record old { device = now; log = log; lists = lists; stopped = Some now.faults } → new ≡ stopped_state old now
+after-stop old new now log lists log_is lists_is is = is ∙ (λ i. record old { device = now; log = log_is i; lists = lists_is i; stopped = Some now.faults })
+
+pub freeze-failed : (old new : StoreState) (now : DeviceState) (owner least : ℕ) → new ≡ stopped_state old now → IsStep old now → MayTurn old least
+    → HasStoppedIn (turn_calls old.log) old.device.story now.story
+    → ((table : Table) → WhereTold old.device.story (λ s. IsLegible table old.lists s → WhereTold now.story (IsLegible table old.lists)))
+    → Rose old.device.faults now.faults → Makes old new owner (Freeze least (Err Fault))
+freeze-failed old new now owner least is step may stopped legible rose =
+    let plan : Calls = turn_calls old.log in
+    let fails : WorkFails old now plan = record { going = step.going; leaves = step.leaves; planned = IsPlan-turn old.log; did = stopped; legible = legible } in
+    subst (λ (s : StoreState). Makes old s owner (Freeze least (Err Fault))) (sym is)
+    (fails-event old now plan owner (Freeze least (Err Fault)) step.pages fails
+    (failed old now owner (Freeze least (Err Fault)) step tt tt refl rose (λ known m has. may-freeze old least may m has))
+    refl refl (λ m. refl)
+    (λ o m has t by. subst (λ (all : List DeviceCall). IsFront all (stopped_calls old now plan fails)) (λ i. ok_calls (same-clock o old m has t i) (turn_calls (has.log i))) by.front))
+
+pub begin-stopped : (s : StoreState) (owner faults : ℕ) → s.stopped ≡ Some faults → Makes s s owner (Begin (Err (Stopped faults)))
+begin-stopped s owner faults is = nothing s owner (Begin (Err (Stopped faults))) tt tt refl refl (λ m. refl) (λ m. refl) (λ known m has. sym has.stopped ∙ is)
+
+-- a begun job leaves what is kept, and what can be read
+pub record LeavesKept (old : StoreState) : Type 0 where
+  pub kept : (table : Table) (s : Story) (row : JobRow) → IsKept old.device.pages old.log table old.lists s → row.written ≡ 0 → IsKept old.device.pages old.log table (begun row old.lists) s
+  pub legible : (table : Table) (s : Story) (row : JobRow) → IsLegible table old.lists s → IsLegible table (begun row old.lists) s
+
+pub began : (old : StoreState) (lists : Lists) (owner : ℕ) (job : Option Job) → old.stopped ≡ None → Begins owner old.lists lists (Ok job) → LeavesKept old
+    → Makes old (record old { lists = lists }) owner (begin_of owner (Ok job))
+began old lists owner None going begins leaves =
+    subst (λ (l : Lists). Makes old (record old { lists = l }) owner (Begin (Ok None))) (sym begins.1)
+    (nothing old owner (Begin (Ok None)) tt tt refl refl (λ m. refl) (λ m. refl) (λ known m has. (sym has.stopped ∙ going, ap (λ (l : Lists). l.frozen) (sym has.lists) ∙ begins.0)))
+began old lists owner (Some job) going begins leaves =
+    let row : JobRow = fresh owner job.plan in
+    subst (λ (l : Lists). Makes old (record old { lists = l }) owner (Begin (Ok (Some row)))) (sym begins.lists)
+    (still-event old (begun row old.lists) old.seq owner (Begin (Ok (Some row)))
+    (record {
+      needs = λ known o m has tells. (sym has.stopped ∙ going, subst (λ (l : Lists). MayBegin l job.plan) has.lists begins.may, refl);
+      owned = refl;
+      acks = tt;
+      stops = refl;
+      faults = omega arith;
+      cause = λ fault. absurd (let no : true ≡ false = sym fault in cc);
+      time = omega arith;
+    })
+    (λ m has. λ i. record m { seq = sym has.seq i; log = sym has.log i; lists = begun row (sym has.lists i); table = m.table })
+    refl (λ m. refl)
+    (λ o m has t. stays-there o old (record old { lists = begun row old.lists; seq = old.seq }) m has t refl refl refl refl
+    (λ table s kept. leaves.kept table s row kept refl) (λ table s legible. leaves.legible table s row legible)))
+
+begin-refuses : (old : StoreState) (lists : Lists) (owner ops : ℕ) (fault : BeginFault) → old.stopped ≡ None → Begins owner old.lists lists (Err fault) → ops ≡ old.log.records
+    → (m : Machine) → Has old m → RefusesBegin m (refusal_of_begin ops fault)
+begin-refuses old lists owner ops begin.Held going begins ops_is m has = (
+  sym has.stopped ∙ going,
+  subst (λ (l : Lists). l.frozen ≢ None) has.lists begins.0,
+  subst (λ (l : Lists). l.job ≢ None) has.lists begins.1,
+  ops_is ∙ ap (λ (l : Log). l.records) has.log,
+)
+begin-refuses old lists owner ops (begin.Full need longest) going begins ops_is m has =
+    let why : IsRefused old.lists (begin.Full need longest) = begins.1 in (
+      record { going = sym has.stopped ∙ going; frozen = subst (λ (l : Lists). l.frozen ≢ None) has.lists begins.0; free = subst (λ (l : Lists). l.job ≡ None) has.lists why.0 },
+      subst (λ (l : Lists). IsRefused l (begin.Full need longest)) has.lists why,
+    )
+begin-refuses old lists owner ops begin.OutOfMemory going begins ops_is m has =
+    let why : IsRefused old.lists begin.OutOfMemory = begins.1 in (
+      record { going = sym has.stopped ∙ going; frozen = subst (λ (l : Lists). l.frozen ≢ None) has.lists begins.0; free = subst (λ (l : Lists). l.job ≡ None) has.lists why.0 },
+      subst (λ (l : Lists). IsRefused l begin.OutOfMemory) has.lists why,
+    )
+
+begin-nothing : (old : StoreState) (owner ops : ℕ) (fault : BeginFault) → ((m : Machine) → Has old m → RefusesBegin m (refusal_of_begin ops fault)) → Makes old old owner (Begin (Err (refusal_of_begin ops fault)))
+begin-nothing old owner ops begin.Held refuses = nothing old owner (Begin (Err (refusal_of_begin ops begin.Held))) tt tt refl refl (λ m. refl) (λ m. refl) (λ known m has. refuses m has)
+begin-nothing old owner ops (begin.Full need longest) refuses =
+    nothing old owner (Begin (Err (refusal_of_begin ops (begin.Full need longest)))) tt tt refl refl (λ m. refl) (λ m. refl) (λ known m has. refuses m has)
+begin-nothing old owner ops begin.OutOfMemory refuses =
+    nothing old owner (Begin (Err (refusal_of_begin ops begin.OutOfMemory))) tt tt refl refl (λ m. refl) (λ m. refl) (λ known m has. refuses m has)
+
+pub begin-refused : (old : StoreState) (lists : Lists) (owner ops : ℕ) (fault : BeginFault) → old.stopped ≡ None → Begins owner old.lists lists (Err fault) → ops ≡ old.log.records
+    → Makes old (record old { lists = lists }) owner (Begin (Err (refusal_of_begin ops fault)))
+begin-refused old lists owner ops fault going begins ops_is =
+    subst (λ (l : Lists). Makes old (record old { lists = l }) owner (Begin (Err (refusal_of_begin ops fault)))) (sym begins.2)
+    (begin-nothing old owner ops fault (begin-refuses old lists owner ops fault going begins ops_is))
+
+-- the job of the store, which its owner has
+pub record HasJob (old : StoreState) (owner : ℕ) (row : JobRow) (job : Job) : Type 0 where
+  pub is : old.lists.job ≡ Some row
+  pub owned : row.owner ≡ owner
+  pub same : job ≡ job_of old.lists row
+
+pub has-job : (old : StoreState) (owner : ℕ) (row : JobRow) (job : Job) → IsJobOf old.lists owner job → old.lists.job ≡ Some row → HasJob old owner row job
+has-job old owner row job of is =
+    subst (λ (r : JobRow). HasJob old owner r job) (same_Some _ _ (sym of.is ∙ is)) (record { is = of.is; owned = of.owned; same = of.same })
+
+owned-by : (old : StoreState) (owner : ℕ) (row : JobRow) (job : Job) → HasJob old owner row job → Some owner ≡ Some row.owner
+owned-by old owner row job has = ap (λ (n : ℕ). Some n) (sym has.owned)
+
+is-writing : (old : StoreState) (owner : ℕ) (row : JobRow) (job : Job) → HasJob old owner row job → 0 < steps_left job → (m : Machine) → Has old m → IsWriting m row
+is-writing old owner row job its left m has =
+    let some : 0 < steps_left (job_of old.lists row) = subst (λ (j : Job). 0 < steps_left j) its.same left in
+    record { job = ap (λ (l : Lists). l.job) (sym has.lists) ∙ its.is; left = omega (arith, some) }
+
+pub write-stopped : (s : StoreState) (owner faults : ℕ) (row : JobRow) (job : Job) → HasJob s owner row job → 0 < steps_left job → s.stopped ≡ Some faults → Makes s s owner (JobWrite row (Err (Stopped faults)))
+write-stopped s owner faults row job its left is =
+    nothing s owner (JobWrite row (Err (Stopped faults))) (owned-by s owner row job its) tt refl refl (λ m. refl) (λ m. refl)
+    (λ known m has. (is-writing s owner row job its left m has, sym has.stopped ∙ is))
+
+pub wrote-page : (old : StoreState) (now : DeviceState) (lists : Lists) (owner : ℕ) (row : JobRow) (job : Job) (bytes : List ℕ) → IsStep old now → HasJob old owner row job → 0 < steps_left job
+    → length bytes ≡ PAGE_BYTES → now.story ≡ all_noted (Write ((job.plan.extent.first + job.written) * PAGE_BYTES) bytes ∷ []) old.device.story
+    → ((table : Table) → WhereTold old.device.story (λ s. IsKept old.device.pages old.log table old.lists s → WhereTold now.story (IsKept old.device.pages old.log table lists)))
+    → lists ≡ one_written old.lists → Makes old (record old { device = now; lists = lists }) owner (JobWrite row (Ok tt))
+wrote-page old now lists owner row job bytes step its left wide did kept lists_is =
+    works-event old now old.log lists (Write ((job.plan.extent.first + job.written) * PAGE_BYTES) bytes ∷ []) owner (JobWrite row (Ok tt)) step.pages
+    (record { going = step.going; leaves = step.leaves; planned = tt; did = did; kept = kept; rows = ap (λ (l : Lists). l.rows) lists_is })
+    (answered old now owner (JobWrite row (Ok tt)) step (owned-by old owner row job its) tt refl refl (λ known m has. (sym has.stopped ∙ step.going, is-writing old owner row job its left m has)))
+    (λ m has.
+    (λ i. record m { seq = sym has.seq i; log = sym has.log i; lists = one_written (sym has.lists i); table = m.table })
+    ∙ (λ i. record m { seq = old.seq; log = old.log; lists = sym lists_is i; table = m.table }))
+    refl (λ m has. λ i. made_at (has.clock i + 1) (WriteAt (((its.same i).plan.extent.first + (its.same i).written) * PAGE_BYTES) (wide i)) ∷ [])
+
+-- of one call none is left before the one that failed
+no-calls : (call : DeviceCall) (made : List DeviceCall) → IsFront (call ∷ []) made → made ≡ []
+no-calls call [] front = refl
+no-calls call (first ∷ made) front =
+    let count : 1 ≡ suc (length (made ++ front.failed ∷ front.left)) = ap (λ (calls : List DeviceCall). length calls) front.front in
+    absurd (omega (arith, count, length-append made (front.failed ∷ front.left)))
+
+pub page-failed : (old new : StoreState) (now : DeviceState) (owner : ℕ) (row : JobRow) (job : Job) (at : ℕ) (bytes : List ℕ) → new ≡ stopped_state old now → IsStep old now → HasJob old owner row job → 0 < steps_left job
+    → HasStoppedIn (Write at bytes ∷ []) old.device.story now.story
+    → ((table : Table) → WhereTold old.device.story (λ s. IsLegible table old.lists s → WhereTold now.story (IsLegible table old.lists)))
+    → Rose old.device.faults now.faults → Makes old new owner (JobWrite row (Err Fault))
+page-failed old new now owner row job at bytes is step its left stopped legible rose =
+    let plan : Calls = Write at bytes ∷ [] in
+    let fails : WorkFails old now plan = record { going = step.going; leaves = step.leaves; planned = tt; did = stopped; legible = legible } in
+    subst (λ (s : StoreState). Makes old s owner (JobWrite row (Err Fault))) (sym is)
+    (fails-event old now plan owner (JobWrite row (Err Fault)) step.pages fails
+    (failed old now owner (JobWrite row (Err Fault)) step (owned-by old owner row job its) tt refl rose (λ known m has. (is-writing old owner row job its left m has, sym has.stopped ∙ step.going)))
+    refl refl (λ m. refl)
+    (λ o m has t by. no-calls _ (stopped_calls old now plan fails) by.front))
+
+is-written_out : (old : StoreState) (owner : ℕ) (row : JobRow) (job : Job) → HasJob old owner row job → IsLists old.lists → steps_left job ≡ 0 → (m : Machine) → Has old m → IsWrittenOut m row
+is-written_out old owner row job its lists done m has =
+    let none : steps_left (job_of old.lists row) ≡ 0 = subst (λ (j : Job). steps_left j ≡ 0) its.same done in
+    let planned : IsPlanned old.lists row = subst (IsPlannedIf old.lists) its.is lists.planned in
+    record { job = ap (λ (l : Lists). l.job) (sym has.lists) ∙ its.is; none_left = omega (arith, none, planned.written) }
+
+pub install-stopped : (s : StoreState) (owner faults : ℕ) (row : JobRow) (job : Job) → HasJob s owner row job → IsLists s.lists → steps_left job ≡ 0 → s.stopped ≡ Some faults
+    → Makes s s owner (Install row (Err (Stopped faults)))
+install-stopped s owner faults row job its lists done is =
+    nothing s owner (Install row (Err (Stopped faults))) (owned-by s owner row job its) tt refl refl (λ m. refl) (λ m. refl)
+    (λ known m has. (is-written_out s owner row job its lists done m has, sym has.stopped ∙ is))
+
+-- the calls of an install are those of the machine's job
+same-calls : (old : StoreState) (owner : ℕ) (row : JobRow) (job : Job) → HasJob old owner row job → (m : Machine) → Has old m
+    → install_calls job.plan.slot (described job) ≡ install_calls row.plan.slot (described (job_of m.lists row))
+same-calls old owner row job its m has =
+    (λ i. install_calls (its.same i).plan.slot (described (its.same i))) ∙ (λ i. install_calls row.plan.slot (described (job_of (has.lists i) row)))
+
+pub was-installed : (old : StoreState) (now : DeviceState) (lists : Lists) (owner : ℕ) (row : JobRow) (job : Job) → IsStep old now → HasJob old owner row job → IsLists old.lists → steps_left job ≡ 0
+    → now.story ≡ all_noted (install_calls job.plan.slot (described job)) old.device.story
+    → ((table : Table) → WhereTold old.device.story (λ s. IsKept old.device.pages old.log table old.lists s → WhereTold now.story (IsKept old.device.pages old.log table lists)))
+    → lists ≡ installed row old.lists → Makes old (record old { device = now; lists = lists }) owner (Install row (Ok tt))
+was-installed old now lists owner row job step its sound done did kept lists_is =
+    works-event old now old.log lists (install_calls job.plan.slot (described job)) owner (Install row (Ok tt)) step.pages
+    (record { going = step.going; leaves = step.leaves; planned = tt; did = did; kept = kept; rows = ap (λ (l : Lists). l.rows) lists_is })
+    (answered old now owner (Install row (Ok tt)) step (owned-by old owner row job its) tt refl refl (λ known m has. (sym has.stopped ∙ step.going, is-written_out old owner row job its sound done m has)))
+    (λ m has.
+    (λ i. record m { seq = sym has.seq i; log = sym has.log i; lists = installed row (sym has.lists i); table = m.table })
+    ∙ (λ i. record m { seq = old.seq; log = old.log; lists = sym lists_is i; table = m.table }))
+    refl (λ m has. λ i. ok_calls (has.clock i) (same-calls old owner row job its m has i))
+
+pub install-failed : (old new : StoreState) (now : DeviceState) (owner : ℕ) (row : JobRow) (job : Job) → new ≡ stopped_state old now → IsStep old now → HasJob old owner row job → IsLists old.lists → steps_left job ≡ 0
+    → HasStoppedIn (install_calls job.plan.slot (described job)) old.device.story now.story
+    → ((table : Table) → WhereTold old.device.story (λ s. IsLegible table old.lists s → WhereTold now.story (IsLegible table old.lists)))
+    → Rose old.device.faults now.faults → Makes old new owner (Install row (Err Fault))
+install-failed old new now owner row job is step its sound done stopped legible rose =
+    let plan : Calls = install_calls job.plan.slot (described job) in
+    let fails : WorkFails old now plan = record { going = step.going; leaves = step.leaves; planned = tt; did = stopped; legible = legible } in
+    subst (λ (s : StoreState). Makes old s owner (Install row (Err Fault))) (sym is)
+    (fails-event old now plan owner (Install row (Err Fault)) step.pages fails
+    (failed old now owner (Install row (Err Fault)) step (owned-by old owner row job its) tt refl rose (λ known m has. (is-written_out old owner row job its sound done m has, sym has.stopped ∙ step.going)))
+    refl refl (λ m. refl)
+    (λ o m has t by. subst (λ (all : List DeviceCall). IsFront all (stopped_calls old now plan fails)) (λ i. ok_calls (same-clock o old m has t i) (same-calls old owner row job its m has i)) by.front))

@@ -1,0 +1,41 @@
+// What a store answers of its rows.
+ghost use Rattle.std.specs.Prelude.{◌≡◌};
+ghost use Rattle.store_machine.specs.Standing.{IsReady, Makes};
+ghost use Rattle.store_machine.specs.declared.events.Action.{Action};
+ghost use Rattle.store_core.specs.Refusals.{refusal_of};
+ghost use Rattle.store_core.specs.Stores.{state_of};
+
+use crate::store::Store;
+use dev_model::Device;
+use kept_state::read_row;
+use page_codec::PageFault;
+use store_machine::{Got, Refusal};
+
+// The refusal of a call where reading pages was refused.
+pub(crate) fn refused(fault: PageFault) -> Refusal
+    ensures { result ≡ refusal_of fault }
+{
+    match fault {
+        PageFault::Failed => Refusal::Fault,
+        PageFault::Damaged { page } => Refusal::Damaged { page },
+        PageFault::OutOfMemory => Refusal::OutOfMemory,
+    }
+}
+
+impl<D: Device> Store<D> {
+    /// The row of a key. It takes no memory. `Fault` where a page could not be read, and `Damaged` where a page that was read
+    /// is none for its place, which doesn't come where the store was opened from what was on the disk.
+    pub fn get(&mut self, owner: u64, key: u64) -> Result<Got, Refusal>
+        requires ready { IsReady (state_of D.pages D.clock D.fault_count D.story self.old) }
+        ensures event { Makes (state_of D.pages D.clock D.fault_count D.story self.old) (state_of D.pages D.clock D.fault_count D.story self.new) owner (Action.Get key result) }
+        ensures ready { IsReady (state_of D.pages D.clock D.fault_count D.story self.new) }
+    {
+        match read_row(&mut self.device, &self.state, key) {
+            Ok(row) => {
+                let seq = self.draw();
+                Ok(Got { seq, row })
+            }
+            Err(fault) => Err(refused(fault)),
+        }
+    }
+}
