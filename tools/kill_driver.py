@@ -4,20 +4,28 @@
     python3 tools/kill_driver.py [PROGRAM] [--kills N] [--seed N] [--pages N] [--folder FOLDER]
 
 PROGRAM is crates/spatial/out/spatial where none is named. Random scripts run on a file in FOLDER (tools/out). Some of
-them end, and some are killed (SIGKILL) at a random moment, until N kills (200) ended a process. After each run the file
+them end, and some are killed (SIGKILL) at a random moment, until N kills (200) ended a process; of a part of them the moment
+is soon after the log went on to a new segment, which is the first step of a flush. After each run the file
 is opened again, by a script that counts, gets every key and asks for the whole square:
 
-- It opens, and these looks leave each byte of the file as it was.
+- It opens, and these looks leave each byte of the file as it was. Most are answered over components on the device.
 - All that was there before the run, and all that a run that ended answered, is there exactly.
 - Of a run that was killed a prefix of its writes is there and nothing else, with each write whose answer was printed.
 - A format that was killed leaves the old store, or a file that isn't formatted, or the new one.
+- The file has the components that the script's flushes make, of just their writes: those of its `flush` lines, and of the
+  flushes that come by themselves in long runs of puts. A killed run leaves the first few of them, among these each one
+  whose flush came before the last write that is there.
 
 Before that it is shown that a second process on the same file is refused while the first one goes on.
 
+A store takes 16 components, since there are no merges yet: where a script would make more, a new file or format comes.
+
 The last line says how many kills there were, and where they fell. At the first failure it says what is wrong and where
-to look, and ends with status 1; so it does where hardly any kill fell between the first and the last write of a run.
+to look, and ends with status 1; so it does where hardly any kill fell between the first and the last write of a run, or
+hardly any look was over components, or no kill fell amid a flush, or no flush came by itself.
 """
 import argparse
+import os
 import random
 import shutil
 import subprocess
@@ -25,25 +33,30 @@ import sys
 import tempfile
 import time
 from collections import Counter
-from dataclasses import dataclass
+from dataclasses import dataclass, replace
 from difflib import unified_diff
 from pathlib import Path
 
-from plain_table import WHOLE, Count, Get, Put, Row, answers, prefixes, random_commands, random_keys, script_of
+from plain_table import WHOLE, Count, Flush, Get, Put, Row, answers, prefixes, random_commands, random_keys, random_region, script_of
+from upkeep import FLUSH_AT, MOST_COMPONENTS, Upkeep, cut_of, due_of, leaves, may_leave, upkeep_of
 
 TOP = Path(__file__).resolve().parent.parent
 SERIAL, FRESH, FORMAT = ("serial",), ("fresh", "dhvb"), ("format", "dhvb")
 KILLED = -9
 NOT_FORMATTED = (6, "bad image: not formatted\n")
 REFUSED = (5, "device fault\n")
-# A log takes so many writes until a flush comes.
-MOST_WRITES = 2048
 MOST_COMMANDS = 240
-KEYS = 48
+# A long run has so many, so that a flush comes by itself.
+LONG_RUN = (1100, 1400)
+MOST_FLUSH_LINES = 2
+# More than two leaves of a component's tree take.
+KEYS = 160
 # Seconds after which a run counts as one that doesn't end.
 PATIENCE = 60
-# At least this part of the kills has to fall between the first and the last write of a run.
+# At least this part of the kills has to fall between the first and the last write of a run, and to be looked at over components.
 LEAST_AMID = 0.1
+# This part of the kills is aimed at a flush, within so many seconds of its begin.
+AIMED, MOST_FLUSH = 0.4, 0.003
 # Lines that differ are shown up to this number.
 MOST_SHOWN = 12
 
@@ -62,9 +75,18 @@ class Ended:
         return self.status, self.text
 
 
-def ended(child, moment=None):
-    """The child's status. After so many seconds it is killed by its number, which is its own until it was waited for."""
+def wait_for(child, has_begun):
+    """Waits until the moment that is meant has come, or the child's end."""
+    begun = time.monotonic()
+    while not has_begun() and child.poll() is None and time.monotonic() - begun < PATIENCE:
+        pass
+
+
+def ended(child, moment=None, has_begun=None):
+    """The child's status. So many seconds after its start, or after what is waited for, it is killed by its number, which is its own until it was waited for."""
     try:
+        if has_begun is not None:
+            wait_for(child, has_begun)
         if moment is not None:
             time.sleep(moment)
             child.kill()
@@ -92,14 +114,20 @@ class Program:
         found = self.file.read_bytes() if self.file.exists() else b""
         return found.ljust(self.pages * 4096, b"\0")
 
-    def run(self, command, commands, moment=None):
-        """Waits for the end of a run, or kills it so many seconds after its start."""
+    def has_frozen(self, cut):
+        """Whether the log has gone on to a new segment, so that a flush is under way."""
+        with open(self.file, "rb") as file:
+            return cut_of(lambda at, length: os.pread(file.fileno(), length, at)) > cut
+
+    def run(self, command, commands, moment=None, cut=None):
+        """Waits for the end of a run, or kills it so many seconds after its start; with a cut after its first flush began."""
         self.runs += 1
         script, printed = (self.folder / f"{self.runs:04}.{kind}" for kind in ("script", "printed"))
         script.write_text(script_of(commands))
         with open(script) as source, open(printed, "w") as sink:
             begun = time.perf_counter()
-            status = ended(subprocess.Popen(self.words(command), stdin=source, stdout=sink), moment)
+            has_begun = None if cut is None else lambda: self.has_frozen(cut)
+            status = ended(subprocess.Popen(self.words(command), stdin=source, stdout=sink), moment, has_begun)
             seconds = time.perf_counter() - begun
         with open(self.folder / "runs.txt", "a") as runs:
             runs.write(f"{self.runs:04} {' '.join(command)}: status {status} after {seconds:.4f} s\n")
@@ -168,17 +196,29 @@ class Driver:
     def __init__(self, program, chance, kills):
         self.program, self.chance, self.kills = program, chance, kills
         self.keys = random_keys(chance, KEYS)
-        self.looks = [Count(), *map(Get, self.keys), WHOLE]
+        self.looks = [Count(), *map(Get, self.keys), WHOLE, random_region(chance), random_region(chance)]
         self.state = State(None, 0, None)
+        self.upkeep = Upkeep()
         self.pace = Pace()
         self.tally = Counter()
 
     def round(self):
-        if self.state.table is None or self.state.logged + 2 * MOST_COMMANDS > MOST_WRITES:
-            self.begin_file()
         if self.chance.random() < 0.3:
-            self.run(SERIAL, self.script(MOST_COMMANDS))
-        self.kill(SERIAL, self.script(MOST_COMMANDS))
+            self.run(SERIAL, self.script_with_room())
+        self.kill(SERIAL, self.script_with_room())
+
+    def script_with_room(self):
+        """A script whose components the store has room for, if need be after a new file or format."""
+        if self.state.table is not None:
+            commands = self.script(self.most_commands())
+            due = due_of(commands, self.state.table, self.state.logged, self.upkeep)
+            if len(self.upkeep.components) + len(due) <= MOST_COMPONENTS:
+                return commands
+        self.begin_file()
+        return self.script(MOST_COMMANDS)
+
+    def most_commands(self):
+        return self.chance.randrange(*LONG_RUN) if self.chance.random() < 0.4 else MOST_COMMANDS
 
     def begin_file(self):
         """A new file, or the old one formatted over. Some formats are killed before one ends."""
@@ -192,31 +232,68 @@ class Driver:
         self.tally["files"] += 1
 
     def script(self, most):
-        return random_commands(self.chance, self.keys, self.state.table or {}, self.chance.randrange(1, most + 1))
+        """Of a long run the length is as chosen, and of others up to that."""
+        length = most if most > MOST_COMMANDS else self.chance.randrange(1, most + 1)
+        commands = random_commands(self.chance, self.keys, self.state.table or {}, length)
+        for _ in range(self.chance.randrange(MOST_FLUSH_LINES + 1)):
+            commands.insert(self.chance.randrange(len(commands) + 1), Flush())
+        return commands
 
     def kill(self, command, commands):
-        if not self.is_done():
+        if self.is_done():
+            return
+        if command == SERIAL and self.chance.random() < AIMED and due_of(commands, self.state.table, self.state.logged, self.upkeep):
+            self.run(command, commands, self.chance.uniform(0, MOST_FLUSH), self.upkeep.cut)
+        else:
             self.run(command, commands, self.pace.moment(self.chance, command, commands))
 
     def is_done(self):
         return self.tally["kills"] >= self.kills
 
-    def run(self, command, commands, moment=None):
+    def run(self, command, commands, moment=None, cut=None):
         """A run, and a look at what it left."""
-        before = State({}, 0, None) if command == FRESH else self.state
+        before, upkeep = (State({}, 0, None), Upkeep()) if command == FRESH else (self.state, self.upkeep)
         texts = answers(commands, before.table)
         possible = [State(p.table, before.logged + p.writes, p.writes) for p in prefixes(commands, before.table)]
-        done = self.program.run(command, commands, moment)
+        due = due_of(commands, before.table, before.logged, upkeep)
+        done = self.program.run(command, commands, moment, cut)
         if done.status == KILLED and moment is not None:
-            earlier = [self.state, State(None, 0, None)] if command == FRESH else []
+            # None of this run's writes is in them.
+            earlier = [replace(self.state, writes=None), State(None, 0, None)] if command == FRESH else []
             left = self.look(earlier + possible, least_writes(done.text, texts, commands, before.table))
+            left = self.with_upkeep(left, lambda state, after: self.upkeep_may_be(state, upkeep, due, after))
             self.count_kill(left, possible[-1].writes)
         else:
             self.expect_all(done, texts)
-            left = self.look(possible[-1:], 0)
+            left = self.with_upkeep(self.look(possible[-1:], 0), lambda _, after: leaves(upkeep, due, after))
             self.pace.learn(command, commands, done.seconds)
             self.tally["finished"] += 1
         self.state = left[-1]
+        self.note_upkeep(upkeep)
+
+    def upkeep_may_be(self, state, upkeep, due, after):
+        """Whether a killed run may leave this with the state."""
+        if state.table is None:
+            return True
+        return after == self.upkeep if state.writes is None else may_leave(upkeep, due, state.logged, after)
+
+    def with_upkeep(self, left, fits):
+        """The states among these that fit to the components that the file has."""
+        if all(state.table is None for state in left):
+            return left
+        after = upkeep_of(self.program.bytes_left())
+        fit = [state for state in left if fits(state, after)]
+        if not fit:
+            raise Failure(f"the run before run {self.program.runs:04} left {left[-1].name()} with {after}, which its flushes don't make; before it was {self.upkeep}")
+        return fit
+
+    def note_upkeep(self, before):
+        """Notes the components of the file for the next run, and counts the new ones."""
+        self.upkeep = Upkeep() if self.state.table is None else upkeep_of(self.program.bytes_left())
+        new = self.upkeep.components[len(before.components):] if self.state.writes is not None else ()
+        self.tally["flushes"] += len(new)
+        self.tally["by themselves"] += sum(last - first + 1 >= FLUSH_AT for first, last in new)
+        self.tally["most"] = max(self.tally["most"], len(self.upkeep.components))
 
     def expect_all(self, done, texts):
         expected = "".join(texts)
@@ -251,6 +328,10 @@ class Driver:
 
     def count_kill(self, left, all_writes):
         self.tally["kills"] += 1
+        if left[-1].table is not None:
+            upkeep = upkeep_of(self.program.bytes_left())
+            self.tally["over components"] += bool(upkeep.components)
+            self.tally["frozen"] += upkeep.is_frozen() and upkeep != self.upkeep
         writes = {state.writes for state in left}
         if None in writes:
             self.tally["formatting"] += 1
@@ -320,6 +401,12 @@ def drive(program, chance, kills):
     tally = driver.tally
     if tally["amid"] < LEAST_AMID * tally["kills"]:
         raise Failure(f"only {tally['amid']} of {tally['kills']} kills fell between the first and the last write of a run, so little was shown")
+    if tally["over components"] < LEAST_AMID * tally["kills"]:
+        raise Failure(f"only {tally['over components']} of {tally['kills']} kills were looked at over components, so little was shown")
+    if not tally["frozen"]:
+        raise Failure("no kill fell amid a flush, so little was shown: take more kills")
+    if not tally["by themselves"]:
+        raise Failure("no flush came by itself, so little was shown: take more kills")
     return tally
 
 
@@ -349,7 +436,8 @@ def main():
         sys.exit(f"Look at {folder}: store.dat is the file, runs.txt names the runs on it in order, N.script and N.printed are theirs")
     shutil.rmtree(folder)
     print(f"{tally['kills']} kills, 0 lost, seed {words.seed}: {tally['amid']} amid the writes, {tally['before']} before the first, {tally['after']} after the last, "
-          f"{tally['formatting']} while formatting; {tally['finished']} finished runs, {tally['files']} formats; a second process was refused")
+          f"{tally['formatting']} while formatting; {tally['frozen']} amid a flush, {tally['over components']} looked at over components; {tally['flushes']} flushes, {tally['by themselves']} of them by themselves, up to {tally['most']} components; "
+          f"{tally['finished']} finished runs, {tally['files']} formats; a second process was refused")
 
 
 main()

@@ -1,7 +1,7 @@
 """The plain table that the program's answers are compared with, and random scripts over it.
 
 A table is a dict from keys to rows. A command knows its line of the script, and takes its answer from a table,
-which it changes as the store has to change.
+which it changes as the store has to change. A flush has no answer and no place, and changes nothing of the table.
 """
 from dataclasses import dataclass
 
@@ -100,6 +100,18 @@ class Region:
         return self.x1 <= row.x <= self.x2 and self.y1 <= row.y <= self.y2
 
 
+@dataclass(frozen=True)
+class Flush:
+    def line(self):
+        return "flush"
+
+    def is_logged(self, table):
+        return False
+
+    def answer(self, table):
+        return None
+
+
 WHOLE = Region(0, 0, MOST_COORDINATE, MOST_COORDINATE)
 
 
@@ -125,9 +137,13 @@ def prefixes(commands, table):
 
 
 def answers(commands, table):
-    """The printed text of each command's answer, where nothing is refused."""
-    table = dict(table)
-    return [f"{place} 0 {command.answer(table)}\n" for place, command in enumerate(commands)]
+    """The printed text of each command's answer, where nothing is refused: none for a flush, which has no place."""
+    table, texts, place = dict(table), [], 0
+    for command in commands:
+        answer = command.answer(table)
+        texts.append("" if answer is None else f"{place} 0 {answer}\n")
+        place += answer is not None
+    return texts
 
 
 def script_of(commands):

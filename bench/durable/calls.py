@@ -5,35 +5,24 @@
 
 Runs `serial` with no, one and eight puts, each on a new file. What the last two do on the file beyond the first has to
 be for each put: 96 bytes written, a sync of the data, 1 byte written, a sync of the data, in this order, and no call
-else. It prints these calls of one put, and ends with status 1 where there are others.
+else. So it is where no flush comes and the store has no component: each component is read for the row that stood there.
+It prints these calls of one put, and ends with status 1 where there are others.
 """
-import re
-import shutil
-import subprocess
 import sys
 import tempfile
 from pathlib import Path
 
 from stores import expected_text, new_file, read_words, script_of, words_of
+from traces import traced
 
 A_PUT = ["pwrite64 96", "fdatasync", "pwrite64 1", "fdatasync"]
-CALL = re.compile(r"(\w+)\(\d+<([^>]*)>.*= (-?\d+)")
 
 
-def calls_on(file, trace):
-    """The calls on the file in their order, each with what it answered, where that isn't 0."""
-    found = (CALL.search(line) for line in trace.splitlines())
-    return [call[1] + (f" {call[3]}" if call[3] != "0" else "") for call in found if call and call[2] == str(file)]
-
-
-def traced(words, folder, puts):
-    file, trace = folder / "store.dat", folder / "trace"
+def calls_of(words, folder, puts):
+    """The names and answers of the calls of so many puts on a new file."""
+    file = folder / "store.dat"
     new_file(words.program, file, words.pages)
-    tracer = ["strace", "-f", "-y", "-s", "0", "-e", "trace=%desc", "-o", trace]
-    done = subprocess.run([*tracer, words.program, file, str(words.pages), "serial"], input=script_of(puts), capture_output=True, text=True)
-    if (done.returncode, done.stdout) != (0, expected_text(puts)):
-        sys.exit(f"the run ended with status {done.returncode}: {done.stdout[-300:]}{done.stderr[-300:]}")
-    return calls_on(file, trace.read_text())
+    return [str(call) for call in traced(words.program, file, words.pages, script_of(puts), expected_text(puts))]
 
 
 def beyond(calls, without):
@@ -44,13 +33,9 @@ def beyond(calls, without):
 
 def main():
     words = read_words(words_of("Counts the calls of a put."))
-    if not shutil.which("strace"):
-        sys.exit("strace isn't there")
     good = True
     with tempfile.TemporaryDirectory(dir=words.folder.resolve()) as name:
-        none, one, eight = (traced(words, Path(name), puts) for puts in (0, 1, 8))
-    if not none:
-        sys.exit("strace showed no call on the file")
+        none, one, eight = (calls_of(words, Path(name), puts) for puts in (0, 1, 8))
     for puts, calls in ((1, one), (8, eight)):
         added = beyond(calls, none)
         good = good and len(calls) == len(none) + len(added) and added == A_PUT * puts

@@ -4,7 +4,7 @@
     python3 bench/durable/compare.py [PROGRAM] [--puts N] [--runs N] [--pages N] [--folder FOLDER]
 
 PROGRAM is crates/spatial/out/spatial where none is named. In turns, RUNS times (101), each on a new file in FOLDER
-(bench/out/durable) and with PUTS puts (50):
+(bench/out/durable) and with PUTS puts (50, and 1,023 at the most, so that no flush comes):
 
 - spatial: the time of `serial` with a script of the puts, without the time of one with an empty script.
 - bare: the same of bare.c, a loop over 96 bytes, a sync, 1 byte and a sync, on a file that was formatted in the same way.
@@ -17,13 +17,11 @@ of the second one the calls cost by themselves.
 import resource
 import sqlite3
 import statistics
-import subprocess
 import sys
 import tempfile
-import time
-from dataclasses import dataclass
 from pathlib import Path
 
+from costs import Clock, place_of, timed
 from stores import MOST_PUTS, expected_text, new_file, read_words, rows, script_of, words_of
 
 HERE = Path(__file__).resolve().parent
@@ -32,45 +30,6 @@ from beside_c import build_c
 
 MOST_OVER_BARE = 1.2
 MOST_OVER_SQLITE = 1.4
-
-
-@dataclass
-class Cost:
-    """Seconds that pass, and seconds of a processor."""
-
-    passed: float
-    processor: float
-
-    def __sub__(self, other):
-        return Cost(self.passed - other.passed, self.processor - other.processor)
-
-    def __truediv__(self, number):
-        return Cost(self.passed / number, self.processor / number)
-
-
-class Clock:
-    """What this process or its children take from its making on."""
-
-    def __init__(self, whose):
-        self.whose = whose
-        self.begun = self.now()
-
-    def now(self):
-        used = resource.getrusage(self.whose)
-        return Cost(time.perf_counter(), used.ru_utime + used.ru_stime)
-
-    def cost(self):
-        return self.now() - self.begun
-
-
-def timed(words, script=""):
-    """The cost of a process, and what it printed."""
-    clock = Clock(resource.RUSAGE_CHILDREN)
-    done = subprocess.run(words, input=script, capture_output=True, text=True)
-    cost = clock.cost()
-    if done.returncode != 0:
-        sys.exit(f"{words} ended with status {done.returncode}: {done.stdout[-300:]}{done.stderr[-300:]}")
-    return cost, done.stdout
 
 
 def program_cost(program, file, pages, puts):
@@ -121,11 +80,6 @@ def measured(words, folder):
         )
         for _ in range(words.runs)
     ]
-
-
-def place_of(folder):
-    lines = subprocess.run(["df", "--output=source,fstype,target", folder], capture_output=True, text=True, check=True).stdout.splitlines()
-    return dict(zip(("source", "kind", "target"), lines[1].split()))
 
 
 def median_of(name, costs):
