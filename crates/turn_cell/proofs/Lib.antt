@@ -1,0 +1,4 @@
+pub mod Tallies
+pub mod Moves
+pub mod Resting
+pub mod Turns
