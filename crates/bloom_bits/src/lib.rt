@@ -4,8 +4,6 @@
 
 mod filter;
 mod hash;
-#[cfg(test)]
-mod tests;
 
 pub use filter::{BITS_A_KEY, Bloom, BloomFault, FEWEST_BITS, KEY_LIMIT, PROBES, bits_for};
 pub use hash::mix;

@@ -10,9 +10,9 @@ use Rattle.page_codec.specs.Page.{most_rows}
 use Rattle.tree_shape.specs.Laws.Writing.{stands, Stands}
 use Rattle.tree_shape.specs.Laws.Places.{child_has_row}
 use Rattle.tree_shape.specs.declared.levels.Shape.{Shape}
-use Rattle.tree_shape.specs.Shape.{level_size, level_start, span}
-use Rattle.btree_image.specs.Rows.{Layout, IsStored, IsKeyOrder, Ascends}
-use Rattle.tree_shape.specs.Shape.{numbers}
+use Rattle.tree_shape.specs.Shape.{level_size, level_start, span, numbers}
+use Rattle.btree_image.specs.Rows.{Layout, IsStored, Ascends}
+use Rattle.btree_image.specs.Kinds.{IsKeyOrder}
 use Rattle.btree_image.specs.Image.{shape_of, child_row, level_rows}
 use Rattle.btree_image.specs.Descent.{rank, place_of_key}
 use Rattle.btree_image.specs.Steps.{reaches, IsLastUpTo}

@@ -10,16 +10,16 @@ use Rattle.std.specs.Ordering.{is_gt, is_lt}
 use Rattle.std.specs.declared.cmp.Ordering.TheVariants.{Greater}
 use Rattle.page_codec.specs.Page.{most_rows, rows_on, row_count, ShowsRows}
 use Rattle.btree_image.specs.declared.runs.Run.{Run}
-use Rattle.btree_image.specs.Rows.{Layout, IsKeyOrder, IsStored}
+use Rattle.btree_image.specs.Rows.{Layout, IsStored}
+use Rattle.btree_image.specs.Kinds.{IsKeyOrder}
 use Rattle.btree_image.specs.Image.{level_rows, IsList}
 use Rattle.btree_image.specs.Descent.{rank, place_of_key}
 use Rattle.btree_image.specs.Steps.{reaches, precedes, IsLastUpTo}
 use Rattle.btree_image.specs.Walks.{rank_below, part, rows_of, Leads}
-use Rattle.tree_shape.specs.Laws.Writing.{length-rows_on}
+use Rattle.tree_shape.specs.Laws.Writing.{length-rows_on, stands}
 use Rattle.btree_image.proofs.Rank.{rank-le, at_most-below, greater-from}
 use Rattle.btree_image.proofs.Ranks.{below-rank, below-passes, below-stops, rank-next}
 use Rattle.btree_image.proofs.Narrowed.{end-some, place-none, last_place}
-use Rattle.tree_shape.specs.Laws.Writing.{stands}
 use Rattle.btree_image.proofs.Children.{not_greater}
 use Rattle.btree_image.proofs.Leaf.{leaf-low, leaf-high}
 use Rattle.btree_image.proofs.Told.{leaf_place, leaf_count, key_there, no_rows}

@@ -7,7 +7,9 @@ use Rattle.std.specs.Ordering.{is_gt, is_eq, eq_by_cmp}
 use Rattle.std.specs.declared.cmp.Ordering.{Ordering}
 use Rattle.std.specs.declared.cmp.Ordering.TheVariants.{Less, Equal, Greater}
 use Rattle.page_codec.specs.Page.{most_rows}
-use Rattle.btree_image.specs.Rows.{Layout, IsStored, IsKeyOrder, Ascends, row_with_key}
+use Rattle.btree_image.specs.Rows.{Layout, IsStored, Ascends}
+use Rattle.btree_image.specs.Kinds.{IsKeyOrder}
+use Rattle.btree_image.specs.Given.{row_with_key}
 use Rattle.btree_image.specs.Image.{shape_of}
 use Rattle.btree_image.specs.Descent.{rank, place_of_key}
 use Rattle.tree_shape.specs.Laws.Covers.{span-zero}

@@ -9,12 +9,13 @@ use Rattle.std.specs.Ordering.{is_gt, is_lt, ordering_reverse}
 use Rattle.std.specs.declared.cmp.Ordering.{Ordering}
 use Rattle.std.specs.declared.cmp.Ordering.TheVariants.{Less, Equal, Greater}
 use Rattle.page_codec.specs.Page.{most_rows}
-use Rattle.tree_shape.specs.Shape.{level_size, span}
-use Rattle.btree_image.specs.Rows.{Layout, IsKeyOrder}
+use Rattle.tree_shape.specs.Shape.{level_size, span, numbers}
+use Rattle.btree_image.specs.Rows.{Layout}
+use Rattle.btree_image.specs.Kinds.{IsKeyOrder}
 use Rattle.btree_image.specs.Image.{shape_of, IsList}
-use Rattle.tree_shape.specs.Shape.{numbers}
 use Rattle.btree_image.specs.Descent.{rank, place_of_key}
-use Rattle.btree_image.specs.Visited.{AreRanges, begins_before, reaches_row, is_inside, rows_met, is_met}
+use Rattle.btree_image.specs.Visited.{begins_before, reaches_row, is_met}
+use Rattle.btree_image.specs.Given.{AreRanges, is_inside, rows_met}
 use Rattle.btree_image.specs.Walks.{rank_below, end_of_key, run_of, part, rows_of, next_behind, walk}
 use Rattle.tree_shape.specs.Laws.Covers.{past_quotient, child_reached}
 use Rattle.btree_image.proofs.Rank.{rank-le, at_most-below, greater-from}

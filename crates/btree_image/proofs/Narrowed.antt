@@ -9,10 +9,11 @@ use Rattle.std.specs.declared.cmp.Ordering.TheVariants.{Less, Greater}
 use Rattle.page_codec.specs.Page.{most_rows, rows_on, ShowsRows}
 use Rattle.btree_image.specs.declared.hand.InHand.{InHand}
 use Rattle.btree_image.specs.declared.runs.Run.{Run}
-use Rattle.tree_shape.specs.Shape.{level_size, span, IsPlace}
-use Rattle.btree_image.specs.Rows.{Layout, IsKeyOrder}
-use Rattle.btree_image.specs.Image.{shape_of, level_rows, IsList, IsShown, child_row}
-use Rattle.tree_shape.specs.Shape.{numbers}
+use Rattle.tree_shape.specs.Shape.{level_size, span, IsPlace, numbers}
+use Rattle.btree_image.specs.Rows.{Layout}
+use Rattle.btree_image.specs.Kinds.{IsKeyOrder}
+use Rattle.btree_image.specs.Image.{shape_of, level_rows, IsList, child_row}
+use Rattle.btree_image.specs.Pages.{IsShown}
 use Rattle.btree_image.specs.Descent.{rank, place_of_key}
 use Rattle.btree_image.specs.Steps.{reaches, IsLastUpTo}
 use Rattle.btree_image.specs.Walks.{end_of_key, run_of, Leads, IsInHand}

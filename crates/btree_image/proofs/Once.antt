@@ -2,10 +2,10 @@
 use Rattle.std.proofs.Common.{◌≢◌, ℕ, zero, suc, ◌+◌, ◌-◌, ◌<◌, ◌≤◌, max, List, [], ◌∷◌, ◌++◌, map, get_or, All, AllPairs, arith}
 use Rattle.std.proofs.lemmas.List.Elements.{All-append, All-map}
 use Rattle.btree_image.specs.declared.runs.Run.{Run}
-use Rattle.tree_shape.specs.Shape.{level_size, level_start}
+use Rattle.tree_shape.specs.Shape.{level_size, level_start, numbers}
 use Rattle.btree_image.specs.Rows.{Layout}
-use Rattle.btree_image.specs.Image.{shape_of, page_number}
-use Rattle.tree_shape.specs.Shape.{numbers}
+use Rattle.btree_image.specs.Image.{shape_of}
+use Rattle.btree_image.specs.Pages.{page_number}
 use Rattle.btree_image.specs.Walks.{places_in, next_behind, walk}
 use Rattle.tree_shape.specs.Laws.Numbers.{get_or-numbers, length-numbers}
 use Rattle.btree_image.proofs.Places.{behind-some, behind-least}

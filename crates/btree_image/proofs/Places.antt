@@ -6,7 +6,7 @@ use Rattle.btree_image.specs.declared.runs.Run.{Run}
 use Rattle.tree_shape.specs.Asked.{EndsWith}
 use Rattle.btree_image.specs.Rows.{Layout}
 use Rattle.tree_shape.specs.Shape.{numbers}
-use Rattle.btree_image.specs.Image.{page_number}
+use Rattle.btree_image.specs.Pages.{page_number}
 use Rattle.btree_image.specs.Walks.{places_in, next_behind, walk, in_hand}
 
 pub numbers-none : (from n : ℕ) → n ≡ 0 → numbers from n ≡ []

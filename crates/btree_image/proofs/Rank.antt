@@ -4,7 +4,8 @@ use Rattle.std.proofs.lemmas.List.Sums.{prefix_len_passes, prefix_len_stops, pre
 use Rattle.std.specs.Ordering.{is_gt, ordering_reverse}
 use Rattle.std.specs.declared.cmp.Ordering.{Ordering}
 use Rattle.std.specs.declared.cmp.Ordering.TheVariants.{Less, Equal, Greater}
-use Rattle.btree_image.specs.Rows.{Layout, IsKeyOrder, Ascends}
+use Rattle.btree_image.specs.Rows.{Layout, Ascends}
+use Rattle.btree_image.specs.Kinds.{IsKeyOrder}
 use Rattle.btree_image.specs.Descent.{rank}
 
 above : (o : Ordering) → not (is_gt o) ≡ false → o ≡ Greater

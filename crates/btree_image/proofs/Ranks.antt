@@ -8,7 +8,8 @@ use Rattle.std.specs.List.{prefix_len}
 use Rattle.std.specs.Ordering.{is_gt, is_lt}
 use Rattle.std.specs.declared.cmp.Ordering.{Ordering}
 use Rattle.std.specs.declared.cmp.Ordering.TheVariants.{Less, Equal, Greater}
-use Rattle.btree_image.specs.Rows.{Layout, IsKeyOrder, Ascends}
+use Rattle.btree_image.specs.Rows.{Layout, Ascends}
+use Rattle.btree_image.specs.Kinds.{IsKeyOrder}
 use Rattle.btree_image.specs.Descent.{rank}
 use Rattle.btree_image.specs.Walks.{rank_below}
 use Rattle.tree_shape.specs.Laws.Covers.{below_quotient, up_to_quotient}

@@ -10,19 +10,20 @@ use Rattle.std.proofs.lemmas.Bool.{cases_Bool}
 use Rattle.std.proofs.Math.Nat.{div-mul-le_self}
 use Rattle.dev_model.specs.Story.{WhereTold}
 use Rattle.page_codec.specs.Page.{IsPage, most_rows, rows_on, row_count, ShowsRows}
-use Rattle.tree_shape.specs.Shape.{level_size, level_start, IsPlace}
-use Rattle.btree_image.specs.Rows.{Layout, IsStored, IsKeyOrder, row_with_key}
-use Rattle.tree_shape.specs.Shape.{numbers}
-use Rattle.btree_image.specs.Image.{shape_of, level_rows, level_kind, IsList, ShowsTree, IsShown, page_number, child_row}
+use Rattle.tree_shape.specs.Shape.{level_size, level_start, IsPlace, numbers}
+use Rattle.btree_image.specs.Rows.{Layout, IsStored}
+use Rattle.btree_image.specs.Kinds.{IsKeyOrder}
+use Rattle.btree_image.specs.Given.{row_with_key}
+use Rattle.btree_image.specs.Image.{shape_of, level_rows, level_kind, IsList, ShowsTree, child_row}
+use Rattle.btree_image.specs.Pages.{IsShown, page_number}
 use Rattle.btree_image.specs.Descent.{rank, place_of_key}
 use Rattle.btree_image.specs.Damage.{AllReadable, IsTreePage, IsDamaged, IsTested}
 use Rattle.page_codec.specs.declared.faults.PageFault.TheVariants.{Damaged}
 use Rattle.btree_image.specs.Steps.{IsLastUpTo, row_at}
-use Rattle.tree_shape.specs.Laws.Writing.{length-rows_on}
+use Rattle.tree_shape.specs.Laws.Writing.{length-rows_on, stands, Stands}
 use Rattle.tree_shape.specs.Laws.Numbers.{length-numbers}
 use Rattle.btree_image.proofs.Rank.{rank-le, at_most-below, greater-from}
 use Rattle.tree_shape.specs.Laws.Covers.{place_inside, place_above}
-use Rattle.tree_shape.specs.Laws.Writing.{stands, Stands}
 use Rattle.btree_image.proofs.Children.{stored_at, not_greater, place_in_page, child_number-is, child_at, level_rows-children, row_at_place}
 use Rattle.btree_image.proofs.Leaf.{found-last, found-none, row_with_key-none, leaf-low, leaf-high, part-length}
 use Rattle.btree_image.proofs.Found.{row_at-other, row_at-same}

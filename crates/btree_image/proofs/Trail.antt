@@ -3,8 +3,10 @@ use Rattle.std.proofs.Common.{◌≡◌, ℕ, suc, ◌≤◌, List, [], ◌∷�
 use Rattle.page_codec.specs.Page.{most_rows}
 use Rattle.tree_shape.specs.Laws.Places.{root_unique}
 use Rattle.tree_shape.specs.Shape.{IsRoot}
-use Rattle.btree_image.specs.Rows.{Layout, IsKeyOrder}
-use Rattle.btree_image.specs.Image.{shape_of, IsList, page_number}
+use Rattle.btree_image.specs.Rows.{Layout}
+use Rattle.btree_image.specs.Kinds.{IsKeyOrder}
+use Rattle.btree_image.specs.Image.{shape_of, IsList}
+use Rattle.btree_image.specs.Pages.{page_number}
 use Rattle.btree_image.specs.Descent.{place_of_key, descent}
 use Rattle.btree_image.proofs.Told.{place-inside}
 

@@ -3,11 +3,13 @@ use Rattle.std.proofs.Common.{◌≡◌, ℕ, zero, suc, ◌<◌, ◌≤◌, Lis
 use Rattle.std.proofs.lemmas.List.{append-nil, ext_get_or, length-map, get_or-map, get_or-replicate}
 use Rattle.page_codec.specs.Page.{most_rows}
 use Rattle.btree_image.specs.declared.runs.Run.{Run}
-use Rattle.tree_shape.specs.Shape.{level_size, IsRoot}
-use Rattle.btree_image.specs.Rows.{Layout, IsKeyOrder}
-use Rattle.btree_image.specs.Image.{shape_of, page_number, IsList}
-use Rattle.tree_shape.specs.Shape.{numbers}
-use Rattle.btree_image.specs.Visited.{AreRanges, is_met, met_at, met_below, visited_pages, rows_met, is_inside}
+use Rattle.tree_shape.specs.Shape.{level_size, IsRoot, numbers}
+use Rattle.btree_image.specs.Rows.{Layout}
+use Rattle.btree_image.specs.Kinds.{IsKeyOrder}
+use Rattle.btree_image.specs.Image.{shape_of, IsList}
+use Rattle.btree_image.specs.Pages.{page_number}
+use Rattle.btree_image.specs.Visited.{is_met, met_at, met_below, visited_pages}
+use Rattle.btree_image.specs.Given.{AreRanges, rows_met, is_inside}
 use Rattle.std.specs.List.{list_any}
 use Rattle.btree_image.specs.Walks.{walk, run_of, Leads, AllLead, AllRuns}
 use Rattle.btree_image.proofs.Told.{place-inside}

@@ -1,7 +1,9 @@
 -- How many rows a page has room for, for each kind.
 use Rattle.std.proofs.Common.{ℕ, zero, suc, ◌/◌, ◌<◌, ◌≤◌, arith, lit≤}
-use Rattle.page_codec.specs.Page.{row_width, most_rows, IsKind}
-use Rattle.btree_image.specs.Rows.{Layout, AreKinds}
+use Rattle.page_codec.specs.Page.{row_width, most_rows}
+use Rattle.page_codec.specs.Adding.{IsKind}
+use Rattle.btree_image.specs.Rows.{Layout}
+use Rattle.btree_image.specs.Kinds.{AreKinds}
 use Rattle.tree_shape.specs.Laws.Covers.{up_to_quotient}
 
 pub row_width-most : (kind : ℕ) → row_width kind ≤ 78

@@ -4,7 +4,8 @@ use Rattle.std.specs.Int.{from_be_bytes, w32}
 use Rattle.page_codec.specs.Page.{IsPage, row_count, rows_on}
 use Rattle.tree_shape.specs.Shape.{level_size, level_start, IsPlace}
 use Rattle.btree_image.specs.Rows.{Layout}
-use Rattle.btree_image.specs.Image.{shape_of, page_number, level_kind}
+use Rattle.btree_image.specs.Image.{shape_of, level_kind}
+use Rattle.btree_image.specs.Pages.{page_number}
 
 -- the rows of a leaf can all be read
 abbrev pub AllReadable : {T K : Type 0} → Layout T K → List (List ℕ) → Type 0

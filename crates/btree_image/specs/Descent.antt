@@ -5,7 +5,8 @@ use Rattle.std.specs.List.{prefix_len}
 use Rattle.std.specs.Ordering.{is_gt}
 use Rattle.tree_shape.specs.Shape.{span}
 use Rattle.btree_image.specs.Rows.{Layout}
-use Rattle.btree_image.specs.Image.{shape_of, page_number}
+use Rattle.btree_image.specs.Image.{shape_of}
+use Rattle.btree_image.specs.Pages.{page_number}
 
 -- how many rows have a key that is at most that key
 abbrev pub rank : {T K : Type 0} → Layout T K → List T → K → ℕ

@@ -1,8 +1,8 @@
 -- The image of a list of rows: its tree, as rows on pages.
-use Rattle.std.specs.Prelude.{◌≡◌, ℕ, zero, suc, ◌+◌, ◌*◌, List, [], ◌++◌, length, take, drop, map, slice_get, All, Bool, IsTrue, Option, Some}
+use Rattle.std.specs.Prelude.{◌≡◌, ℕ, zero, suc, ◌+◌, ◌*◌, List, [], ◌++◌, length, take, drop, map, slice_get, All}
 use Rattle.std.specs.Int.{to_be_bytes, w32}
 use Rattle.std.specs.Option.{option_map_or}
-use Rattle.page_codec.specs.Page.{page_of, most_rows, ShowsRows}
+use Rattle.page_codec.specs.Page.{most_rows, ShowsRows}
 use Rattle.tree_shape.specs.declared.levels.Shape.{Shape}
 use Rattle.tree_shape.specs.Shape.{level_size, level_start, span, IsPlace, children_at}
 use Rattle.btree_image.specs.Rows.{Layout, IsStored, Ascends}
@@ -32,10 +32,6 @@ module _ {T K : Type 0} (l : Layout T K) where
   level_kind zero = l.leaf
   level_kind (suc level) = l.inner
 
-  -- the page at a place of a level, as it is written
-  abbrev pub level_page : List T → (level at : ℕ) → List ℕ
-  level_page rows level at = page_of (level_kind level) level (level_rows rows level at)
-
 -- a list that a tree of that many rows can have
 pub record IsList {T K : Type 0} (l : Layout T K) (rows : ℕ) (list : List T) : Type 0 where
   pub count : length list ≡ rows
@@ -46,18 +42,3 @@ pub record IsList {T K : Type 0} (l : Layout T K) (rows : ℕ) (list : List T) :
 abbrev pub ShowsTree : {T K : Type 0} → Layout T K → List T → (first : ℕ) → (ℕ → List ℕ) → Type 0
 ShowsTree l list first contents = (level at : ℕ) → IsPlace (shape_of l (length list)) level at
     → ShowsRows (level_kind l level) level (level_rows l list level at) (contents (first + (level_start (shape_of l (length list)) level + at)))
-
--- the number of a page of a tree on its device
-abbrev pub page_number : {T K : Type 0} → Layout T K → (first rows level at : ℕ) → ℕ
-page_number l first rows level at = first + (level_start (shape_of l rows) level + at)
-
--- each page of a tree is lent
-abbrev pub AreLent : {T K : Type 0} → Layout T K → (ℕ → Bool) → (first rows : ℕ) → Type 0
-AreLent l lent first rows = (level at : ℕ) → IsPlace (shape_of l rows) level at → IsTrue (lent (page_number l first rows level at))
-
--- the pages that are lent tell their bytes, and these show the image of a list
-pub record IsShown {T K : Type 0} (l : Layout T K) (contents : Option (ℕ → List ℕ)) (first rows : ℕ) (list : List T) : Type 0 where
-  pub bytes : ℕ → List ℕ
-  pub told : contents ≡ Some bytes
-  pub is : IsList l rows list
-  pub shows : ShowsTree l list first bytes

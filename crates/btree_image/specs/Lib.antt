@@ -1,8 +1,11 @@
-pub mod Rows
-pub mod Image
-pub mod Descent
 pub mod Damage
+pub mod Descent
+pub mod Given
+pub mod Image
+pub mod Kinds
+pub mod Lent
+pub mod Pages
+pub mod Rows
 pub mod Steps
-pub mod TestRows
 pub mod Visited
 pub mod Walks

@@ -1,18 +1,11 @@
--- What a scan of closed ranges of keys gives, and the pages that it asks for.
-use Rattle.std.specs.Prelude.{◌≡◌, ◌≢◌, ℕ, zero, suc, ◌+◌, ◌*◌, Bool, true, false, not, ◌&&◌, List, [], ◌∷◌, ◌++◌, map, filter, length, slice_get, All, AllPairs, Option, Some, None}
+-- The pages that a scan of closed ranges of keys asks for.
+use Rattle.std.specs.Prelude.{ℕ, zero, suc, ◌+◌, ◌*◌, Bool, true, false, not, ◌&&◌, List, [], ◌∷◌, ◌++◌, map, filter, length, slice_get, Option, Some, None}
 use Rattle.std.specs.List.{list_any}
 use Rattle.std.specs.Ordering.{is_gt, is_lt}
-use Rattle.std.specs.declared.cmp.Ordering.{Ordering}
-use Rattle.std.specs.declared.cmp.Ordering.TheVariants.{Less, Greater}
-use Rattle.tree_shape.specs.Shape.{span, level_size}
+use Rattle.tree_shape.specs.Shape.{span, level_size, numbers}
 use Rattle.btree_image.specs.Rows.{Layout}
-use Rattle.btree_image.specs.Image.{shape_of, page_number}
-use Rattle.tree_shape.specs.Shape.{numbers}
-
--- closed ranges, each behind the one before it
-pub record AreRanges {K : Type 0} (order : K → K → Ordering) (ranges : List (K × K)) : Type 0 where
-  pub each : All (λ range. order range.0 range.1 ≢ Greater) ranges
-  pub apart : AllPairs (λ a b. order a.1 b.0 ≡ Less) ranges
+use Rattle.btree_image.specs.Image.{shape_of}
+use Rattle.btree_image.specs.Pages.{page_number}
 
 module _ {T K : Type 0} (l : Layout T K) where
   -- a range begins before a row, if there is one
@@ -25,15 +18,7 @@ module _ {T K : Type 0} (l : Layout T K) where
   reaches_row range None = false
   reaches_row range (Some row) = not (is_gt (l.order (l.key_of row) range.1))
 
-  -- the key of a row lies in a range
-  abbrev pub is_inside : K × K → T → Bool
-  is_inside range row = not (is_gt (l.order range.0 (l.key_of row))) && not (is_gt (l.order (l.key_of row) range.1))
-
   module _ (list : List T) (ranges : List (K × K)) where
-    -- the rows that a scan gives: those whose keys lie in a range, in the order of the list
-    abbrev pub rows_met : List T
-    rows_met = filter (λ row. list_any (λ range. is_inside range row) ranges) list
-
     -- the keys of a page meet a range: its span goes from its first row up to the first row of the next page of the level,
     -- which it doesn't hold, and that of the last page has no end
     abbrev pub is_met : (level at : ℕ) → Bool

@@ -10,13 +10,14 @@ use Rattle.page_codec.specs.declared.faults.PageFault.{PageFault}
 use Rattle.page_codec.specs.declared.faults.PageFault.TheVariants.{Failed, Damaged, OutOfMemory}
 use Rattle.btree_image.specs.declared.hand.InHand.{InHand}
 use Rattle.btree_image.specs.declared.runs.Run.{Run}
-use Rattle.tree_shape.specs.Shape.{span, level_size}
+use Rattle.tree_shape.specs.Shape.{span, level_size, numbers}
 use Rattle.btree_image.specs.Rows.{Layout}
-use Rattle.btree_image.specs.Image.{shape_of, page_number, level_kind, IsShown}
-use Rattle.tree_shape.specs.Shape.{numbers}
+use Rattle.btree_image.specs.Image.{shape_of, level_kind}
+use Rattle.btree_image.specs.Pages.{page_number, IsShown}
 use Rattle.btree_image.specs.Descent.{rank, place_of_key}
 use Rattle.btree_image.specs.Damage.{IsDamaged, IsTested}
-use Rattle.tree_shape.specs.Asked.{given, given_but_last, EndsWith}
+use Rattle.tree_shape.specs.Asked.{given_but_last, EndsWith}
+use Rattle.tree_shape.specs.Given.{given}
 
 -- the fault of an answer
 abbrev pub fault_of : {X : Type 0} → Result X PageFault → Option PageFault

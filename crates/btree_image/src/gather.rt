@@ -4,11 +4,13 @@ ghost use Rattle.std.specs.Prelude.{◌≡◌, ◌≢◌, ℕ, suc, zero, [], �
 ghost use Rattle.page_codec.specs.Page.{IsPage, row_count, rows_on, most_rows};
 ghost use Rattle.page_codec.specs.declared.faults.PageFault.TheVariants.{Damaged, OutOfMemory};
 ghost use Rattle.tree_shape.specs.Shape.{level_size, IsPlace};
-ghost use Rattle.btree_image.specs.Image.{shape_of, page_number, level_kind, AreLent, IsShown};
+ghost use Rattle.btree_image.specs.Image.{shape_of, level_kind};
+ghost use Rattle.btree_image.specs.Pages.{page_number, IsShown};
+ghost use Rattle.btree_image.specs.Lent.{AreLent};
 ghost use Rattle.btree_image.specs.Descent.{rank};
 ghost use Rattle.btree_image.specs.Damage.{AllReadable};
 ghost use Rattle.btree_image.specs.Steps.{reaches, precedes, IsLastUpTo};
-ghost use Rattle.btree_image.specs.Visited.{AreRanges, rows_met};
+ghost use Rattle.btree_image.specs.Given.{AreRanges, rows_met};
 ghost use Rattle.btree_image.specs.Walks.{GoesOn, fault_of, IsInHand, Holds, in_hand, places_in, next_behind, walk, rank_below, Leads, AllLead, part, rows_of};
 
 use crate::TreeRow;

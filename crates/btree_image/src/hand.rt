@@ -3,7 +3,9 @@
 ghost use Rattle.std.specs.Prelude.{◌≡◌, ℕ, suc, zero, [], ◌∷◌, ◌+◌, ◌-◌, ◌<◌, ◌≤◌, max, List, map, OnOk, OnErr, IfOk};
 ghost use Rattle.page_codec.specs.Page.{IsPage, row_count};
 ghost use Rattle.tree_shape.specs.Shape.{level_size, IsPlace};
-ghost use Rattle.btree_image.specs.Image.{shape_of, page_number, level_kind, AreLent};
+ghost use Rattle.btree_image.specs.Image.{shape_of, level_kind};
+ghost use Rattle.btree_image.specs.Pages.{page_number};
+ghost use Rattle.btree_image.specs.Lent.{AreLent};
 ghost use Rattle.btree_image.specs.Walks.{GoesOn, fault_of, IsInHand, Holds, places_in};
 
 use crate::TreeRow;

@@ -3,7 +3,8 @@
 ghost use Rattle.std.specs.Prelude.{◌≡◌, ◌≢◌, ℕ, suc, [], ◌+◌, ◌<◌, ◌≤◌, Some, length, OnOk, OnErr, IfOk, IfErr, IfSome, IfNone, MatchResult, List, None, slice_index_or, take, drop, if◌then◌else◌};
 ghost use Rattle.std.specs.Ordering.{eq_by_cmp};
 ghost use Rattle.std.specs.Int.{from_be_bytes, w32};
-ghost use Rattle.page_codec.specs.Page.{most_rows, row_width, row_count, rows_on, kind_of, IsPage, IsKind};
+ghost use Rattle.page_codec.specs.Page.{most_rows, row_width, row_count, rows_on, kind_of, IsPage};
+ghost use Rattle.page_codec.specs.Adding.{IsKind};
 ghost use Rattle.btree_image.specs.Rows.{Layout};
 ghost use Rattle.btree_image.specs.Steps.{reaches, precedes, IsLastUpTo, row_at};
 ghost use Rattle.btree_image.specs.Damage.{AllReadable};

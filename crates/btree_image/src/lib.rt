@@ -12,8 +12,6 @@ mod narrow;
 mod over_levels;
 mod rows;
 mod runs;
-#[cfg(test)]
-mod tests;
 
 pub use descend::find;
 pub use load::{load_page, pages_for};

@@ -2,9 +2,12 @@
 
 ghost use Rattle.std.specs.Prelude.{◌≡◌, ℕ, suc, [], ◌∷◌, ◌+◌, ◌*◌, ◌^◌, ◌<◌, ◌≤◌, ◌++◌, List, length};
 ghost use Rattle.std.specs.Int.{to_be_bytes, w32};
-ghost use Rattle.page_codec.specs.Page.{ShowsRows, page_of, kind_of, row_count, row_width, most_rows, AllOfWidth};
+ghost use Rattle.page_codec.specs.Page.{ShowsRows, kind_of, row_count, row_width, most_rows};
+ghost use Rattle.page_codec.specs.Written.{page_of};
+ghost use Rattle.page_codec.specs.Adding.{AllOfWidth};
 ghost use Rattle.tree_shape.specs.Shape.{level_size, level_start, span, IsRoot, IsPlace};
-ghost use Rattle.btree_image.specs.Image.{shape_of, level_rows, level_kind, level_page};
+ghost use Rattle.btree_image.specs.Image.{shape_of, level_rows, level_kind};
+ghost use Rattle.btree_image.specs.Pages.{level_page};
 
 use crate::TreeRow;
 use crate::levels::{level_at, per_inner, per_leaf, shape};

@@ -4,9 +4,11 @@ ghost use Rattle.std.specs.Prelude.{◌≡◌, ◌≢◌, ℕ, suc, [], ◌+◌,
 ghost use Rattle.std.specs.declared.cmp.Ordering.TheVariants.{Greater};
 ghost use Rattle.page_codec.specs.Page.{IsPage, row_count, rows_on, most_rows};
 ghost use Rattle.tree_shape.specs.Shape.{level_size, IsPlace};
-ghost use Rattle.btree_image.specs.Image.{shape_of, page_number, level_kind, AreLent, IsShown};
+ghost use Rattle.btree_image.specs.Image.{shape_of, level_kind};
+ghost use Rattle.btree_image.specs.Pages.{page_number, IsShown};
+ghost use Rattle.btree_image.specs.Lent.{AreLent};
 ghost use Rattle.btree_image.specs.Steps.{reaches, IsLastUpTo};
-ghost use Rattle.btree_image.specs.Visited.{AreRanges};
+ghost use Rattle.btree_image.specs.Given.{AreRanges};
 ghost use Rattle.btree_image.specs.Walks.{GoesOn, fault_of, IsInHand, Holds, places_in, next_behind, walk, run_of, Leads, AllLead, AllRuns};
 
 use crate::TreeRow;

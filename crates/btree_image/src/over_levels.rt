@@ -5,10 +5,13 @@ ghost use Rattle.dev_model.specs.Counts.{Rose};
 ghost use Rattle.dev_model.specs.Story.{WhereTold};
 ghost use Rattle.page_codec.specs.declared.faults.PageFault.TheVariants.{Failed, Damaged, OutOfMemory};
 ghost use Rattle.tree_shape.specs.Shape.{IsRoot};
-ghost use Rattle.btree_image.specs.Image.{shape_of, IsShown, AreLent};
+ghost use Rattle.btree_image.specs.Image.{shape_of};
+ghost use Rattle.btree_image.specs.Pages.{IsShown};
+ghost use Rattle.btree_image.specs.Lent.{AreLent};
 ghost use Rattle.btree_image.specs.Damage.{IsDamaged, IsTested};
 ghost use Rattle.tree_shape.specs.Asked.{Went, GoesBy};
-ghost use Rattle.btree_image.specs.Visited.{AreRanges, rows_met, visited_pages};
+ghost use Rattle.btree_image.specs.Visited.{visited_pages};
+ghost use Rattle.btree_image.specs.Given.{AreRanges, rows_met};
 ghost use Rattle.btree_image.specs.Walks.{GoesOn, GoesAlong, fault_of};
 
 use crate::TreeRow;

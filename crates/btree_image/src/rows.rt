@@ -2,7 +2,8 @@
 
 ghost use Rattle.std.specs.Prelude.{◌≡◌, ℕ, Some, length};
 ghost use Rattle.page_codec.specs.Page.{row_width};
-ghost use Rattle.btree_image.specs.Rows.{Layout, AreKinds, IsStored};
+ghost use Rattle.btree_image.specs.Rows.{Layout, IsStored};
+ghost use Rattle.btree_image.specs.Kinds.{AreKinds};
 
 use std::cmp::Ordering;
 

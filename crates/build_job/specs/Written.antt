@@ -2,7 +2,8 @@
 use Rattle.std.specs.Prelude.{◌≡◌, ℕ, ◌+◌, ◌<◌, List, length}
 use Rattle.page_codec.specs.Page.{ShowsRows}
 use Rattle.tree_shape.specs.Shape.{level_start, IsPlace}
-use Rattle.btree_image.specs.Image.{shape_of, level_kind, level_page, level_rows}
+use Rattle.btree_image.specs.Image.{shape_of, level_kind, level_rows}
+use Rattle.btree_image.specs.Pages.{level_page}
 use Rattle.primary_ix.specs.declared.rows.PrimRow.{PrimRow}
 use Rattle.primary_ix.specs.Rows.{prim_layout}
 use Rattle.build_job.specs.Jobs.{Job}

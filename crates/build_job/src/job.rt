@@ -6,7 +6,8 @@ ghost use Rattle.comp_dir.specs.Parts.{HasPages};
 ghost use Rattle.comp_dir.specs.Rules.{IsSound};
 ghost use Rattle.btree_image.specs.Image.{shape_of};
 ghost use Rattle.primary_ix.specs.Rows.{prim_layout};
-ghost use Rattle.build_job.specs.Jobs.{IsJob, steps_left, next_step, described, IsPlaceable};
+ghost use Rattle.build_job.specs.Jobs.{described};
+ghost use Rattle.build_job.specs.Steps.{IsJob, steps_left, next_step, IsPlaceable};
 ghost use Rattle.build_job.specs.Written.{IsPageOf};
 
 use crate::plan::{Interval, JobPlan};
@@ -36,7 +37,8 @@ pub struct BuildJob {
 }
 
 impl Model for BuildJob {
-    ghost use Rattle.build_job.specs.Jobs.{Job, IsJob};
+    ghost use Rattle.build_job.specs.Jobs.{Job};
+    ghost use Rattle.build_job.specs.Steps.{IsJob};
 
     ghost Value = { Job };
 

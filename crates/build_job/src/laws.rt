@@ -1,12 +1,14 @@
 //! Laws of jobs. Each is the contract of a function that does nothing.
 
 ghost use Rattle.std.specs.Prelude.{◌≡◌, ◌≢◌, ℕ, ◌+◌, ◌<◌, List, length, All, Some};
-ghost use Rattle.order_merge.specs.Entries.{Ascends};
+ghost use Rattle.order_merge.specs.Ascending.{Ascends};
 ghost use Rattle.tree_shape.specs.Shape.{level_start, IsPlace};
 ghost use Rattle.btree_image.specs.Rows.{IsStored};
-ghost use Rattle.btree_image.specs.Image.{shape_of, ShowsTree, IsShown};
+ghost use Rattle.btree_image.specs.Image.{shape_of, ShowsTree};
+ghost use Rattle.btree_image.specs.Pages.{IsShown};
 ghost use Rattle.primary_ix.specs.Rows.{prim_reading, prim_layout};
-ghost use Rattle.build_job.specs.Jobs.{Job, IsJob, steps_left};
+ghost use Rattle.build_job.specs.Jobs.{Job};
+ghost use Rattle.build_job.specs.Steps.{IsJob, steps_left};
 ghost use Rattle.build_job.specs.Written.{IsPageOf, AreWritten};
 
 /// A law: where each page of a job was written to its page of the device, and other pages of the extent stayed, the

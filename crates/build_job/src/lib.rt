@@ -5,8 +5,6 @@
 mod job;
 mod laws;
 mod plan;
-#[cfg(test)]
-mod tests;
 
 pub use job::{BuildJob, JobStep};
 pub use laws::{each_page_has_a_place, written_pages_show_the_list};

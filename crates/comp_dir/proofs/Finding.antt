@@ -5,16 +5,19 @@ use Rattle.std.proofs.lemmas.Bool.Decides.{nat_tests}
 use Rattle.std.proofs.lemmas.List.{get_or_append_left, get_or-append_right, get_or-drop, get_or-take, length-take}
 use Rattle.std.proofs.lemmas.Option.{same_Some}
 use Rattle.std.proofs.lemmas.List.Elements.{All-append}
-use Rattle.dev_model.specs.Story.{Bytes, Story, after, bytes_of, part, WhereTold, IsReadable, IsReadFrom, Read, Tells}
+use Rattle.dev_model.specs.Story.{Bytes, Story, after, bytes_of, part, WhereTold, IsReadable, Read}
+use Rattle.dev_model.specs.Answers.{IsReadFrom, Tells}
 use Rattle.dev_model.specs.Laws.Images.{IsReadable-settled}
 use Rattle.dev_model.specs.Laws.Ranges.{part-list}
 use Rattle.dev_model.specs.Laws.Reads.{bytes_of-reads, IsSettled-reads, ReadsWithin-read}
-use Rattle.comp_dir.specs.Places.{slot_start, IsInDirectory, ReadsDirectory}
+use Rattle.comp_dir.specs.Places.{slot_start}
+use Rattle.comp_dir.specs.Reads.{IsInDirectory, ReadsDirectory}
 use Rattle.comp_dir.specs.Slots.{slot_of}
 use Rattle.comp_dir.specs.Directory.{Directory, Numbered, slot_body, slot_at, slots_from, open_from, open_slots, directory_of, IsLooked}
-use Rattle.comp_dir.specs.Rules.{IsSound, IsSlot, Obeys, AllObey, IsFirstUnsound}
+use Rattle.comp_dir.specs.Rules.{IsSound, IsSlot, Obeys, AllObey}
+use Rattle.comp_dir.specs.Bad.{IsFirstUnsound}
 use Rattle.comp_dir.specs.Faults.{WhereBad}
-use Rattle.comp_dir.specs.State.{IsAtRest}
+use Rattle.comp_dir.specs.Resting.{IsAtRest}
 use Rattle.comp_dir.specs.Found.{AreLawful, slot_in, Shows, IsFine, with_open, HasFound, IsUnsoundAt}
 use Rattle.comp_dir.specs.Laws.Agreeing.{slot_at-open, slot_at-shut, get_or-slots_from, get_or-slots_behind}
 use Rattle.comp_dir.specs.declared.faults.DirFault.{DirFault}

@@ -2,8 +2,11 @@
 use Rattle.std.proofs.Common.{◌≡◌, ◌≢◌, ◌⊎◌, inl, inr, ⊎_elim, ℕ, ◌+◌, ◌-◌, ◌<◌, ◌≤◌, List, [], ◌∷◌, Option, Some, None, Result, Ok, Err, OnOk, length, get_or, set, refl, sym, ◌∙◌, ap, subst, arith}
 use Rattle.std.proofs.lemmas.Bool.{cases_eq}
 use Rattle.std.proofs.lemmas.Option.{same_Some}
-use Rattle.dev_model.specs.Story.{Bytes, Write, Sync, Calls, Story, Tells, Did, HasFailed, HasStoppedIn, noted, all_noted, after, bytes_of, patched, IsOutside, IsSettled, IsImageDuring, part}
-use Rattle.dev_model.specs.Moments.{LeavesOnly, WritesWithin}
+use Rattle.dev_model.specs.Story.{Bytes, Write, Sync, Calls, Story, after, bytes_of, patched, IsOutside, IsSettled, IsImageDuring, part}
+use Rattle.dev_model.specs.Doing.{Did, HasFailed, HasStoppedIn, noted, all_noted}
+use Rattle.dev_model.specs.Answers.{Tells}
+use Rattle.dev_model.specs.Moments.{LeavesOnly}
+use Rattle.dev_model.specs.Writes.{WritesWithin}
 use Rattle.dev_model.specs.Laws.Frame.{WritesWithin-did}
 use Rattle.dev_model.specs.Laws.Ranges.{patched-outside, patched-inside, part-patched}
 use Rattle.dev_model.specs.Laws.Images.{IsReadable-settled}
@@ -12,7 +15,8 @@ use Rattle.dev_model.specs.Laws.Plans.{all_noted-told, Did-call, Did-cut, Did-sa
 use Rattle.comp_dir.specs.Places.{slot_start}
 use Rattle.comp_dir.specs.Slots.{slot_bytes}
 use Rattle.comp_dir.specs.Directory.{Directory, slot_body, slot_at, directory_of, IsLookedInSlot, IsLooked}
-use Rattle.comp_dir.specs.State.{IsAtRest, IsClosed, IsOpen, IsBehindGate, IsWritten, IsReady, IsOneOf, HasStayed, write_calls, open_calls, close_calls, install_calls, with_slot, without_slot}
+use Rattle.comp_dir.specs.State.{IsClosed, IsOpen, IsBehindGate, IsWritten, IsReady, IsOneOf, HasStayed, write_calls, open_calls, close_calls, with_slot, without_slot}
+use Rattle.comp_dir.specs.Resting.{IsAtRest, install_calls}
 use Rattle.comp_dir.specs.Laws.Agreeing.{slot_at-open, slot_at-shut, slot_body-same, looked-elsewhere, looked-back, directory-same, directory-kept, directory-set, directory-on_disk}
 use Rattle.comp_dir.specs.Laws.Staying.{directory-stays, looked-beside, ready-synced}
 use Rattle.comp_dir.specs.declared.slots.Slot.{Slot}

@@ -4,7 +4,8 @@ use Rattle.std.specs.List.{filter}
 use Rattle.comp_dir.specs.Slots.{slot_bytes, slot_of}
 use Rattle.comp_dir.specs.Directory.{Directory, Numbered, open_slots}
 use Rattle.comp_dir.specs.Rules.{IsSound}
-use Rattle.comp_dir.specs.Choosing.{shares_page, same_index, live_slots, ignored_slots, numbers, Opens}
+use Rattle.comp_dir.specs.Choosing.{shares_page, same_index, live_slots, Opens}
+use Rattle.comp_dir.specs.Ignored.{ignored_slots, numbers}
 use Rattle.comp_dir.specs.declared.places.TheConstants.{MOST_LIVE}
 use Rattle.comp_dir.specs.declared.slots.Slot.{Slot}
 

@@ -1,8 +1,8 @@
 -- What is asked of the open slots together, and which of them are live. A list has the open slots by number.
-use Rattle.std.specs.Prelude.{◌≡◌, ◌⊎◌, ℕ, ◌+◌, List, [], ◌∷◌, map, length, max, min, Option, Some, None, Bool, not, ◌&&◌, ◌||◌, nat_le, nat_lt, if◌then◌else◌, ◌==◌}
+use Rattle.std.specs.Prelude.{◌≡◌, ℕ, ◌+◌, List, [], ◌∷◌, length, max, min, Option, Some, None, Bool, not, ◌&&◌, ◌||◌, nat_le, nat_lt, if◌then◌else◌, ◌==◌}
 use Rattle.std.specs.List.{filter, list_any}
 use Rattle.comp_dir.specs.Directory.{Directory, Numbered, open_slots}
-use Rattle.comp_dir.specs.Rules.{AllObey, IsFirstUnsound}
+use Rattle.comp_dir.specs.Rules.{AllObey}
 use Rattle.comp_dir.specs.declared.places.TheConstants.{MOST_LIVE}
 use Rattle.comp_dir.specs.declared.slots.Slot.{Slot}
 
@@ -37,9 +37,6 @@ is_live all e = not (is_ignored all e)
 
 abbrev pub live_slots : List Numbered → List Numbered
 live_slots all = filter (is_live all) all
-
-abbrev pub ignored_slots : List Numbered → List Numbered
-ignored_slots all = filter (is_ignored all) all
 
 -- of one index, and the intervals are equal or overlap in part
 abbrev pub clashes : Slot → Slot → Bool
@@ -87,15 +84,7 @@ first_bad all (e ∷ from) = if is_bad all e then Some e.0 else first_bad all fr
 abbrev pub bad_slot : List Numbered → Option ℕ
 bad_slot all = first_bad all all
 
--- the numbers of slots
-abbrev pub numbers : List Numbered → List ℕ
-numbers slots = map (λ e. e.0) slots
-
 -- the directory of a device of so many pages with these declared indexes may be opened
 pub record Opens (pages declared : ℕ) (slots : Directory) : Type 0 where
   pub sound : AllObey pages declared slots
   pub together : bad_slot (open_slots slots) ≡ None
-
--- the slot that is named where it may not
-abbrev pub IsBadSlot : (pages declared : ℕ) → Directory → ℕ → Type 0
-IsBadSlot pages declared slots n = IsFirstUnsound pages declared slots n ⊎ (AllObey pages declared slots × (bad_slot (open_slots slots) ≡ Some n))

@@ -1,12 +1,17 @@
 pub mod Adding
+pub mod Bad
 pub mod Choosing
 pub mod Directory
 pub mod Examples
 pub mod Faults
 pub mod Found
+pub mod Ignored
 pub mod Laws
 pub mod Parts
 pub mod Places
+pub mod Ranges
+pub mod Reads
+pub mod Resting
 pub mod Rules
 pub mod Slots
 pub mod State

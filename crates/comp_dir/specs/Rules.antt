@@ -53,8 +53,3 @@ Obeys pages declared slots n = (body : List ℕ) → get_or slots n None ≡ Som
 -- that holds of each slot
 abbrev pub AllObey : (pages declared : ℕ) → Directory → Type 0
 AllObey pages declared slots = (n : ℕ) → Obeys pages declared slots n
-
--- it holds of each lower slot, and not of this one
-pub record IsFirstUnsound (pages declared : ℕ) (slots : Directory) (n : ℕ) : Type 0 where
-  pub breaks : Obeys pages declared slots n → ⊥
-  pub before : (m : ℕ) → m < n → Obeys pages declared slots m

@@ -1,5 +1,5 @@
 -- The bytes of a slot behind its gate.
-use Rattle.std.specs.Prelude.{ℕ, ◌^◌, ◌<◌, List, [], ◌∷◌, ◌++◌, take, drop, replicate, get_or}
+use Rattle.std.specs.Prelude.{ℕ, List, [], ◌∷◌, ◌++◌, take, drop, replicate, get_or}
 use Rattle.std.specs.Int.{to_be_bytes, from_be_bytes, w32, w64}
 use Rattle.comp_dir.specs.declared.places.TheConstants.{INDEX_AT, FIRST_AT, PAGES_AT, FIRST_LSN_AT, LAST_LSN_AT, MAIN_ROWS_AT, SECOND_ROWS_AT, SECOND_PLACE_AT, FILTER_PLACE_AT, FILTER_BITS_AT, TABLE_ROWS_AT, RESERVED_BYTES}
 use Rattle.comp_dir.specs.declared.slots.Slot.{Slot}
@@ -19,19 +19,6 @@ slot_bytes s =
     ++ to_be_bytes w32 s.filter_bits
     ++ to_be_bytes w64 s.table_rows
     ++ replicate RESERVED_BYTES 0
-
--- its numbers fit their places
-pub record HasRanges (s : Slot) : Type 0 where
-  pub first : s.first < 2 ^ 32
-  pub pages : s.pages < 2 ^ 32
-  pub first_lsn : s.first_lsn < 2 ^ 64
-  pub last_lsn : s.last_lsn < 2 ^ 64
-  pub main_rows : s.main_rows < 2 ^ 32
-  pub second_rows : s.second_rows < 2 ^ 32
-  pub second_at : s.second_at < 2 ^ 32
-  pub filter_at : s.filter_at < 2 ^ 32
-  pub filter_bits : s.filter_bits < 2 ^ 32
-  pub table_rows : s.table_rows < 2 ^ 64
 
 -- a number that stands there, by its place behind the gate
 abbrev pub number32 : ℕ → List ℕ → ℕ

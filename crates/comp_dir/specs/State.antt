@@ -1,16 +1,13 @@
 -- What is on the disk of a directory, and the calls that change it.
 use Rattle.std.specs.Prelude.{◌≡◌, ◌≢◌, ◌⊎◌, ℕ, ◌+◌, [], ◌∷◌, set, Some, None}
-use Rattle.dev_model.specs.Story.{Story, bytes_of, clock_of, IsCalmAt, IsReadable, IsSettled, IsInside, Write, Sync, Calls}
+use Rattle.dev_model.specs.Story.{Story, bytes_of, clock_of, IsReadable, IsSettled, IsInside, Write, Sync, Calls}
 use Rattle.dev_model.specs.Moments.{EachMoment}
 use Rattle.comp_dir.specs.Places.{slot_start}
 use Rattle.comp_dir.specs.Slots.{slot_bytes}
-use Rattle.comp_dir.specs.Directory.{Directory, slot_body, directory_of, IsLooked}
+use Rattle.comp_dir.specs.Directory.{Directory, slot_body, directory_of}
 use Rattle.comp_dir.specs.declared.places.TheConstants.{OPEN, CLOSED, SLOT_BODY_BYTES}
 use Rattle.comp_dir.specs.declared.slots.Slot.{Slot}
-
--- all that is looked at to read the directory is on the disk
-abbrev pub IsAtRest : Story → Type 0
-IsAtRest s = IsCalmAt (IsLooked (bytes_of s)) s
+use Rattle.comp_dir.specs.Resting.{IsAtRest}
 
 -- the gate of a slot is closed
 abbrev pub IsClosed : ℕ → Story → Type 0
@@ -47,10 +44,6 @@ open_calls n = Write (slot_start n) (OPEN ∷ []) ∷ Sync ∷ []
 -- the gate, closed
 abbrev pub close_calls : ℕ → Calls
 close_calls n = Write (slot_start n) (CLOSED ∷ []) ∷ Sync ∷ []
-
--- the bytes behind the gate, and then the gate, open
-abbrev pub install_calls : ℕ → Slot → Calls
-install_calls n slot = Write (slot_start n + 1) (slot_bytes slot) ∷ Sync ∷ Write (slot_start n) (OPEN ∷ []) ∷ Sync ∷ []
 
 -- the old directory with this slot open
 abbrev pub with_slot : ℕ → Slot → Directory → Directory

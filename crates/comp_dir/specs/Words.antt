@@ -1,7 +1,8 @@
 -- The tests of two slots in words, and what a list of slots is chosen to be.
 use Rattle.std.specs.Prelude.{◌≡◌, ℕ, ◌+◌, ◌<◌, ◌≤◌, List, None}
 use Rattle.comp_dir.specs.Directory.{Numbered}
-use Rattle.comp_dir.specs.Choosing.{bad_slot, live_slots, ignored_slots}
+use Rattle.comp_dir.specs.Choosing.{bad_slot, live_slots}
+use Rattle.comp_dir.specs.Ignored.{ignored_slots}
 use Rattle.comp_dir.specs.declared.slots.Slot.{Slot}
 
 -- a page of the extent

@@ -2,7 +2,8 @@
 ghost use Rattle.std.specs.Prelude.{◌≡◌, ◌+◌, ◌<◌, ◌≤◌, ◌&&◌, ◌||◌, not, ℕ, length, IfOk, IfErr, OnOk, Some, None};
 ghost use Rattle.std.specs.List.{list_any};
 ghost use Rattle.comp_dir.specs.Faults.{WhereBad, IsNotFailed};
-ghost use Rattle.comp_dir.specs.Choosing.{shares_page, shares_lsn, is_inside, is_equal, same_index, is_hidden_by, is_ignored, is_live, live_slots, ignored_slots, clashes, is_lower, overlaps_lower, clashes_with_lower, is_followed_by, continues, lower_of_index, fits_live, is_bad, bad_slot};
+ghost use Rattle.comp_dir.specs.Choosing.{shares_page, shares_lsn, is_inside, is_equal, same_index, is_hidden_by, is_ignored, is_live, live_slots, clashes, is_lower, overlaps_lower, clashes_with_lower, is_followed_by, continues, lower_of_index, fits_live, is_bad, bad_slot};
+ghost use Rattle.comp_dir.specs.Ignored.{ignored_slots};
 ghost use Rattle.comp_dir.specs.Words.{Chooses};
 
 use crate::faults::DirFault;

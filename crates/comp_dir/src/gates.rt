@@ -1,11 +1,14 @@
 // How a slot is written, opened and closed.
 ghost use Rattle.std.specs.Prelude.{◌≡◌, ◌+◌, ◌<◌, ◌≤◌, OnOk};
 ghost use Rattle.dev_model.specs.Counts.{HasCause};
-ghost use Rattle.dev_model.specs.Story.{WhereTold, Did, Ticks, bytes_of};
-ghost use Rattle.dev_model.specs.Moments.{LeavesOnly, WritesWithin};
+ghost use Rattle.dev_model.specs.Story.{WhereTold, bytes_of};
+ghost use Rattle.dev_model.specs.Doing.{Did, Ticks};
+ghost use Rattle.dev_model.specs.Moments.{LeavesOnly};
+ghost use Rattle.dev_model.specs.Writes.{WritesWithin};
 ghost use Rattle.comp_dir.specs.Places.{slot_start};
 ghost use Rattle.comp_dir.specs.Directory.{directory_of};
-ghost use Rattle.comp_dir.specs.State.{IsAtRest, IsClosed, IsOpen, IsWritten, IsReady, IsOneOf, write_calls, open_calls, close_calls, install_calls, with_slot, without_slot};
+ghost use Rattle.comp_dir.specs.State.{IsClosed, IsOpen, IsWritten, IsReady, IsOneOf, write_calls, open_calls, close_calls, with_slot, without_slot};
+ghost use Rattle.comp_dir.specs.Resting.{IsAtRest, install_calls};
 ghost use Rattle.comp_dir.specs.declared.slots.Slot.{Slot};
 
 use crate::places::{

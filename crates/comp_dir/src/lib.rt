@@ -24,6 +24,3 @@ pub use places::{
 };
 pub use reading::read_dir;
 pub use slots::Slot;
-
-#[cfg(test)]
-mod tests;

@@ -2,7 +2,8 @@
 ghost use Rattle.std.specs.Prelude.{◌≡◌, ◌+◌, ◌<◌, ◌≤◌, length, take, drop, Some, None, IfSome, IfNone, IsTrue, ◌↔◌, ℕ, slice_index, slice_set};
 ghost use Rattle.std.specs.Bool.{OnTrue, OnFalse};
 ghost use Rattle.std.specs.Int.{from_be_bytes, w32, w64, div_ceil};
-ghost use Rattle.page_codec.specs.Page.{most_rows, IsKind};
+ghost use Rattle.page_codec.specs.Page.{most_rows};
+ghost use Rattle.page_codec.specs.Adding.{IsKind};
 ghost use Rattle.comp_dir.specs.Slots.{slot_of, slot_bytes, number32, number64};
 ghost use Rattle.comp_dir.specs.Parts.{HasPages, HasSecond, HasParts, tree, main_tree};
 ghost use Rattle.comp_dir.specs.Rules.{IsDeclared, HasExtent, HasInterval, IsSound, IsSlot, HasNoMore};

@@ -1,12 +1,14 @@
 // The directory as it is found on a device, read page by page.
 ghost use Rattle.std.specs.Prelude.{◌≡◌, ◌+◌, ◌*◌, ◌<◌, ◌≤◌, ℕ, IfOk, IfErr, OnOk};
 ghost use Rattle.dev_model.specs.Counts.{HasCause};
-ghost use Rattle.dev_model.specs.Story.{Bytes, WhereTold, Ticks, bytes_of};
-ghost use Rattle.comp_dir.specs.Places.{ReadsDirectory};
+ghost use Rattle.dev_model.specs.Story.{Bytes, WhereTold, bytes_of};
+ghost use Rattle.dev_model.specs.Doing.{Ticks};
+ghost use Rattle.comp_dir.specs.Reads.{ReadsDirectory};
 ghost use Rattle.comp_dir.specs.Directory.{directory_of, open_slots};
-ghost use Rattle.comp_dir.specs.Rules.{AllObey, IsFirstUnsound};
+ghost use Rattle.comp_dir.specs.Rules.{AllObey};
+ghost use Rattle.comp_dir.specs.Bad.{IsFirstUnsound};
 ghost use Rattle.comp_dir.specs.Faults.{WhereBad, HasCauseOfFault, IsNotFailed};
-ghost use Rattle.comp_dir.specs.State.{IsAtRest};
+ghost use Rattle.comp_dir.specs.Resting.{IsAtRest};
 ghost use Rattle.comp_dir.specs.Found.{slot_in, Shows, IsFine, with_open, AreLawful, HasFound, IsUnsoundAt};
 
 use crate::faults::DirFault;

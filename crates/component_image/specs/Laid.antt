@@ -1,5 +1,5 @@
 -- The table that components hold.
-use Rattle.std.specs.Prelude.{ℕ, ◌+◌, List, [], ◌∷◌, length, Some, None}
+use Rattle.std.specs.Prelude.{ℕ, List, [], ◌∷◌, Some, None}
 use Rattle.std.specs.FinMap as map
 use Rattle.geo_base.specs.declared.points.Point.{Point}
 use Rattle.table_model.specs.Table.{Table, Place}
@@ -24,8 +24,3 @@ laid (row ∷ rows) t = with_matter (laid rows t) row.key row.matter
 abbrev pub table_of : List (List PrimRow) → Table
 table_of [] = map.empty
 table_of (rows ∷ older) = laid rows (table_of older)
-
--- how many rows these lists have together
-abbrev pub rows_together : List (List PrimRow) → ℕ
-rows_together [] = 0
-rows_together (rows ∷ older) = length rows + rows_together older

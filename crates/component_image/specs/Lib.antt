@@ -1,8 +1,12 @@
+pub mod Alone
+pub mod Beside
 pub mod Changes
 pub mod Components
 pub mod Content
+pub mod Counted
 pub mod Laid
 pub mod Laws
 pub mod Recovered
 pub mod Resting
+pub mod Standing
 pub mod Told

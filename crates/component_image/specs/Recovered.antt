@@ -41,10 +41,6 @@ IsLookedAt bytes i = IsLookedInSuperblock bytes i ⊎ (IsLooked bytes i ⊎ IsLo
 abbrev pub IsContent : Bytes → ℕ → Type 0
 IsContent bytes i = IsInExtents (primary_of bytes) i
 
--- a place that is looked at, or a page of a component, but no place of the log
-abbrev pub IsBeside : Bytes → ℕ → Type 0
-IsBeside bytes i = IsLookedInSuperblock bytes i ⊎ (IsLooked bytes i ⊎ IsContent bytes i)
-
 -- The image of a device of so many pages opens, each live component shows a list, and the table is that of these lists with the
 -- later writes of the log behind them. Each of these says truly at which point its key stood before it.
 pub record Recovers (pages : ℕ) (table : Table) (bytes : Bytes) : Type 0 where

@@ -1,8 +1,8 @@
 // Laws of images with components, each as the contract of a function that does nothing.
-ghost use Rattle.std.specs.FinMap.{empty};
 ghost use Rattle.std.specs.Prelude.{◌≡◌, ◌↔◌, ◌⊎◌, ℕ, ◌+◌, ◌^◌, ◌<◌, ◌≤◌, All, List, [], ◌∷◌, ◌++◌, length, Option, Some, None, set};
 ghost use Rattle.dev_model.specs.Story.{Bytes, Story, clock_of, bytes_of, IsOutside, IsImageNow, IsCalmAt};
-ghost use Rattle.dev_model.specs.Moments.{EachMoment, WritesWithin};
+ghost use Rattle.dev_model.specs.Moments.{EachMoment};
+ghost use Rattle.dev_model.specs.Writes.{WritesWithin};
 ghost use Rattle.order_merge.specs.Entries.{Fits};
 ghost use Rattle.order_merge.specs.Views.{lists_of};
 ghost use Rattle.table_model.specs.Table.{Table, rows_of};
@@ -10,17 +10,19 @@ ghost use Rattle.table_model.specs.Answers.{after_write};
 ghost use Rattle.wal_log.specs.Later.{later};
 ghost use Rattle.wal_log.specs.Segments.{segments_of};
 ghost use Rattle.wal_log.specs.Rules.{records_of};
-ghost use Rattle.wal_log.specs.State.{IsAtRest as LogAtRest, IsLogOf, HasRecordsOr, HasSameRecords, OpensAs};
+ghost use Rattle.wal_log.specs.State.{IsAtRest as LogAtRest, IsLogOf};
+ghost use Rattle.wal_log.specs.Changes.{HasRecordsOr, HasSameRecords, OpensAs};
 ghost use Rattle.wal_log.specs.declared.log.Log.{Log};
 ghost use Rattle.wal_log.specs.declared.records.Record.{Record};
 ghost use Rattle.image_model.specs.Directory.{HasNoComponent};
-ghost use Rattle.image_model.specs.Recovered.{write_of, replayed, Recovers as RecoversAlone};
+ghost use Rattle.image_model.specs.Recovered.{write_of, replayed};
 ghost use Rattle.comp_dir.specs.Places.{slot_start};
 ghost use Rattle.comp_dir.specs.Adding.{MayBeAdded};
 ghost use Rattle.comp_dir.specs.Directory.{Directory, directory_of, open_slots};
 ghost use Rattle.comp_dir.specs.Choosing.{Opens as DirectoryOpens};
 ghost use Rattle.comp_dir.specs.declared.places.TheConstants.{PRIMARY};
-ghost use Rattle.comp_dir.specs.State.{IsAtRest as DirectoryAtRest, IsOneOf, with_slot};
+ghost use Rattle.comp_dir.specs.State.{IsOneOf, with_slot};
+ghost use Rattle.comp_dir.specs.Resting.{IsAtRest as DirectoryAtRest};
 ghost use Rattle.comp_dir.specs.declared.slots.Slot.{Slot};
 ghost use Rattle.primary_ix.specs.Rows.{prim_reading};
 ghost use Rattle.primary_ix.specs.Wanted.{wanted_rows};
@@ -28,10 +30,14 @@ ghost use Rattle.primary_ix.specs.declared.rows.PrimRow.{PrimRow};
 ghost use Rattle.component_image.specs.Changes.{changed, IsFrozenOf};
 ghost use Rattle.component_image.specs.Components.{components, end_of, IsInExtent};
 ghost use Rattle.component_image.specs.Content.{Shows};
-ghost use Rattle.component_image.specs.Laid.{laid, table_of, rows_together};
-ghost use Rattle.component_image.specs.Recovered.{primary_of, ends_of, IsBeside, IsContent, Recovers};
-ghost use Rattle.component_image.specs.Resting.{Rests, RecoversEither, MayStand};
-ghost use Rattle.component_image.specs.Told.{SaysOld, AreTold, counted};
+ghost use Rattle.component_image.specs.Laid.{laid, table_of};
+ghost use Rattle.component_image.specs.Counted.{rows_together, counted};
+ghost use Rattle.component_image.specs.Recovered.{primary_of, ends_of, IsContent, Recovers};
+ghost use Rattle.component_image.specs.Alone.{RecoversAlone};
+ghost use Rattle.component_image.specs.Beside.{IsBeside};
+ghost use Rattle.component_image.specs.Resting.{Rests};
+ghost use Rattle.component_image.specs.Standing.{RecoversEither, MayStand};
+ghost use Rattle.component_image.specs.Told.{SaysOld, AreTold};
 
 use comp_dir::MOST_LIVE;
 use image_model::LOG_START;
@@ -148,11 +154,10 @@ pub fn added_component_is_the_newest()
         → components PRIMARY (with_slot n new slots) ≡ new ∷ components PRIMARY slots }
 {}
 
-/// A law: an image of which no slot is open recovers to a table exactly where it does as an image of a store that has no
-/// components, and each record of its log says truly at which point its key stood before.
+/// A law: an image of which no slot is open recovers to a table exactly where its log alone tells that table.
 pub fn image_without_components()
     ensures { (pages : ℕ) (table : Table) (bytes : Bytes) → HasNoComponent bytes
-        → Recovers pages table bytes ↔ (RecoversAlone pages table bytes × AreTold empty (records_of (segments_of LOG_START bytes))) }
+        → Recovers pages table bytes ↔ RecoversAlone pages table bytes }
 {}
 
 /// A law: where a directory opens, the newest component of an index ends behind each open slot of the index, also behind an

@@ -2,7 +2,8 @@
 use Rattle.std.specs.Prelude.{◌≡◌, ℕ, List, [], ◌++◌, take, drop, Option, Some, None, Ok, Err}
 use Rattle.std.proofs.Common.{ap, sym, ◌∙◌, subst, append_assoc, refl}
 use Rattle.std.proofs.lemmas.List.{take-append-drop, append-nil}
-use Rattle.dev_model.specs.Streams.{Takes, Says}
+use Rattle.dev_model.specs.Streams.{Says}
+use Rattle.dev_model.specs.StreamCalls.{Takes}
 
 -- a front of the text was taken, and the rest is to be sent
 pub record IsUnderWay (before : List ℕ) (after : Option (List ℕ)) (text rest : List ℕ) : Type 0 where

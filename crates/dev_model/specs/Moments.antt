@@ -1,6 +1,6 @@
 -- What holds at each moment of a run of calls, and where these calls read and write.
 use Rattle.std.specs.Prelude.{◌≡◌, ℕ, ◌≤◌, [], ◌∷◌, Option, Some}
-use Rattle.dev_model.specs.Story.{Bytes, Read, Write, Sync, FailedWrite, FailedCall, Calls, Story, clock_of, after, bytes_of, IsOutside, IsSettled, IsSpared, IsImage}
+use Rattle.dev_model.specs.Story.{Bytes, Read, Write, Sync, FailedWrite, FailedCall, Calls, Story, clock_of, after, IsImage}
 
 -- each image of each moment from a clock value on has P
 abbrev pub EachMoment : ℕ → Story → (ℕ → Bytes → Type 0) → Type 0
@@ -11,21 +11,6 @@ pub record LeavesOnly (s : Story) (now : Option Story) (P : Bytes → Type 0) : 
   pub calls : Calls
   pub told : now ≡ Some (after s calls)
   pub each : EachMoment (clock_of s) (after s calls) (λ _. P)
-
--- none of these calls touches the place
-abbrev pub AreSpared : Calls → ℕ → Type 0
-AreSpared [] i = Unit {0}
-AreSpared (call ∷ calls) i = IsSpared call i × AreSpared calls i
-
--- what a crash may leave while any of these calls is under way or not yet synced
-abbrev pub IsImageAmid : Story → Calls → Bytes → Type 0
-IsImageAmid s calls image = (i : ℕ) → AreSpared calls i → IsSettled s.past i → image i ≡ bytes_of s i
-
--- The story went on from s by calls that write no place outside this range.
-pub record WritesWithin (at count : ℕ) (s : Story) (now : Option Story) : Type 0 where
-  pub calls : Calls
-  pub told : now ≡ Some (after s calls)
-  pub spared : (i : ℕ) → IsOutside at count i → AreSpared calls i
 
 -- reads alone, each of a range of this kind, and calls that failed and changed nothing
 abbrev pub AreReadsWithin : (ℕ → ℕ → Type 0) → Calls → Type 0

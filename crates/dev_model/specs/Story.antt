@@ -1,5 +1,5 @@
 -- What has happened on a device, what is read there now, and what a crash may leave of it.
-use Rattle.std.specs.Prelude.{◌≡◌, ◌⊎◌, ℕ, ◌+◌, ◌-◌, ◌<◌, ◌≤◌, List, [], ◌∷◌, length, drop, Option, Some, zero, suc, Result, Ok, Err, if◌then◌else◌, ◌&&◌, nat_le, nat_lt, slice_index, option_map}
+use Rattle.std.specs.Prelude.{◌≡◌, ◌⊎◌, ℕ, ◌+◌, ◌-◌, ◌<◌, ◌≤◌, List, [], ◌∷◌, length, drop, Option, Some, zero, suc, if◌then◌else◌, ◌&&◌, nat_le, nat_lt, slice_index}
 use Rattle.std.specs.Ordering.{nat_cmp, MatchOrdering}
 
 -- the byte at each place
@@ -124,10 +124,6 @@ IsImage s m image = IsImageAt s.start s.past m image
 abbrev pub IsCalmAt : (ℕ → Type 0) → Story → Type 0
 IsCalmAt Looked s = (i : ℕ) → Looked i → IsSettled s.past i
 
--- a crash now leaves the bytes as read, and nothing else
-abbrev pub IsCalm : Story → Type 0
-IsCalm s = (i : ℕ) → IsSettled s.past i
-
 -- what is told has P, where it is told
 abbrev pub WhereTold : {T : Type 0} → Option T → (T → Type 0) → Type 0
 WhereTold {T = T} told P = (s : T) → told ≡ Some s → P s
@@ -136,49 +132,3 @@ WhereTold {T = T} told P = (s : T) → told ≡ Some s → P s
 unfoldable pub part : (at count : ℕ) → Bytes → List ℕ
 part at zero bytes = []
 part at (suc count) bytes = bytes at ∷ part (at + 1) count bytes
-
--- the bytes that a read put into a buffer: those at its places, where they can be read
-abbrev pub IsReadFrom : ℕ → List ℕ → Story → Type 0
-IsReadFrom at buf s = (k : ℕ) → k < length buf → IsReadable s.past (at + k) → slice_index buf k ≡ bytes_of s (at + k)
-
--- a story that is told goes on by this call
-abbrev pub noted : Call → Option Story → Option Story
-noted call story = option_map (λ s. with_call s call) story
-
--- a story that is told goes on by these calls
-abbrev pub all_noted : Calls → Option Story → Option Story
-all_noted [] story = story
-all_noted (call ∷ calls) story = all_noted calls (noted call story)
-
--- A call failed and changed nothing. At the clock's last value it isn't told.
-abbrev pub HasChangedNothing : Option Story → Option Story → Type 0
-HasChangedNothing old new = (new ≡ noted FailedCall old) ⊎ (new ≡ old)
-
--- This call was tried and failed. A write may have left anything in its range, or the device knows that it left nothing.
--- Calls that failed aren't tried.
-abbrev pub HasFailed : Call → Option Story → Option Story → Type 0
-HasFailed (Read at count) old new = HasChangedNothing old new
-HasFailed (Write at bytes) old new = (new ≡ noted (FailedWrite at bytes) old) ⊎ HasChangedNothing old new
-HasFailed Sync old new = HasChangedNothing old new
-HasFailed (FailedWrite at bytes) old new = ⊥
-HasFailed FailedCall old new = ⊥
-
--- one call of a device: the story goes on by it where it succeeded
-abbrev pub Tells : {X E : Type 0} → Call → Option Story → Option Story → Result X E → Type 0
-Tells call old new (Ok x) = new ≡ noted call old
-Tells call old new (Err e) = HasFailed call old new
-
--- of these calls the first few succeeded, and the next one failed
-abbrev pub HasStoppedIn : Calls → Option Story → Option Story → Type 0
-HasStoppedIn [] old new = ⊥
-HasStoppedIn (call ∷ calls) old new = HasFailed call old new ⊎ HasStoppedIn calls (noted call old) new
-
--- what was done on a device: these calls in this order, or the first of them up to one that failed
-abbrev pub Did : {X E : Type 0} → Calls → Option Story → Option Story → Result X E → Type 0
-Did calls old new (Ok x) = new ≡ all_noted calls old
-Did calls old new (Err e) = HasStoppedIn calls old new
-
--- The clock over so many calls, told or not. Where one failed, those behind it weren't made.
-abbrev pub Ticks : {X E : Type 0} → ℕ → ℕ → ℕ → Result X E → Type 0
-Ticks count old new (Ok x) = new ≡ old + count
-Ticks count old new (Err e) = (old ≤ new) × (new ≤ old + count)

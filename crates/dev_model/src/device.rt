@@ -1,7 +1,8 @@
 // A device of pages, which may fail and may lose what was not synced.
 ghost use Rattle.std.specs.Prelude.{◌≡◌, ◌+◌, ◌*◌, ◌≤◌, ℕ, Option, Some, length, OnOk};
 ghost use Rattle.dev_model.specs.Counts.{HasCause, next_count};
-ghost use Rattle.dev_model.specs.Story.{Story, Read, Write, Sync, Tells, IsReadFrom, WhereTold, clock_of};
+ghost use Rattle.dev_model.specs.Story.{Story, Read, Write, Sync, WhereTold, clock_of};
+ghost use Rattle.dev_model.specs.Answers.{Tells, IsReadFrom};
 
 use crate::streams::Failed;
 

@@ -1,7 +1,8 @@
 // A write that is on the disk when it returns.
 ghost use Rattle.std.specs.Prelude.{◌≡◌, ◌+◌, ◌*◌, ◌≤◌, [], ◌∷◌, length};
 ghost use Rattle.dev_model.specs.Counts.{HasCause};
-ghost use Rattle.dev_model.specs.Story.{Write, Sync, Did, Ticks};
+ghost use Rattle.dev_model.specs.Story.{Write, Sync};
+ghost use Rattle.dev_model.specs.Doing.{Did, Ticks};
 
 use crate::device::Device;
 use crate::streams::Failed;

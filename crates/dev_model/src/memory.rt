@@ -1,6 +1,7 @@
 // A device in memory, which fails where it is told to and keeps a record of its calls.
 ghost use Rattle.std.specs.Prelude.{◌≡◌, ◌⊎◌, ◌+◌, ◌-◌, ◌*◌, ◌^◌, ◌<◌, ◌≤◌, ◌↔◌, [], ◌∷◌, length, IsTrue, IfOk, OnOk, OnErr, ℕ, slice_index, Some, min, Err, IsErr};
-ghost use Rattle.dev_model.specs.Story.{Read, Write, Sync, FailedWrite, FailedCall, IsReadFrom, IsImage, Tells, WhereTold, patched};
+ghost use Rattle.dev_model.specs.Story.{Read, Write, Sync, FailedWrite, FailedCall, IsImage, WhereTold, patched};
+ghost use Rattle.dev_model.specs.Answers.{IsReadFrom, Tells};
 ghost use Rattle.dev_model.specs.Counts.{HasCause, next_count};
 ghost use Rattle.dev_model.specs.Inside.{clock_of-story};
 ghost use Rattle.dev_model.specs.Memory.{place, zeros, story_of, bytes_noted, HasCallLeft, IsListed, HasRoom, Refuses, with_failure, poked};
@@ -352,6 +353,3 @@ fn write_part(bytes: &mut [u8], at: usize, new: &[u8])
 {
     bytes[at..at + new.len()].copy_from_slice(new);
 }
-
-#[cfg(test)]
-mod tests;

@@ -1,7 +1,7 @@
 // A source and a sink in memory, which fail where they are told. For tests.
 ghost use Rattle.std.specs.Prelude.{◌≡◌, ℕ, ◌+◌, ◌-◌, ◌<◌, ◌≤◌, ◌⊎◌, ◌↔◌, min, List, [], ◌++◌, take, drop, length, Option, Some, IfOk, OnErr, IsErr, Contains};
 ghost use Rattle.dev_model.specs.Counts.{Counts, next_count};
-ghost use Rattle.dev_model.specs.Streams.{Gives, Takes};
+ghost use Rattle.dev_model.specs.StreamCalls.{Gives, Takes};
 
 use crate::streams::{Failed, Sink, Source};
 use std::alloc::{AllocError, Global};
@@ -154,48 +154,5 @@ impl Sink for MemSink {
             Ok(()) => Ok(n),
             Err(_) => unreachable!(),
         }
-    }
-}
-
-#[cfg(test)]
-mod tests {
-    use super::*;
-    use crate::send_all;
-
-    #[test]
-    fn a_source_gives_its_bytes_in_pieces(rt: HostRuntime) -> Result<(), AllocError> {
-        let fail = [2].to_vec(rt.alloc())?;
-        let mut source = MemSource::new(b"abcde".to_vec(rt.alloc())?, fail);
-        let mut buf = [b'-'; 2];
-        for (answer, after, faults) in [
-            (Ok(2), b"ab", 0),
-            (Err(Failed), b"ab", 1),
-            (Ok(2), b"cd", 1),
-            (Ok(1), b"ed", 1),
-            (Ok(0), b"ed", 1),
-        ] {
-            assert_eq!(rt; source.read(&mut buf), answer);
-            assert_eq!(rt; buf, *after);
-            assert_eq!(rt; source.faults(), faults);
-        }
-        Ok(())
-    }
-
-    #[test]
-    fn a_sink_takes_its_room(rt: HostRuntime) -> Result<(), AllocError> {
-        let fail = [2].to_vec(rt.alloc())?;
-        let mut sink = MemSink::new(rt.alloc(), 5, fail)?;
-        for (text, answer, taken, faults) in [
-            ("abc", Ok(()), "abc", 0),
-            ("no", Err(Failed), "abc", 1),
-            ("", Ok(()), "abc", 1),
-            ("def", Err(Failed), "abcde", 2),
-            ("no", Err(Failed), "abcde", 3),
-        ] {
-            assert_eq!(rt; send_all(&mut sink, text.as_bytes()), answer);
-            assert_eq!(rt; sink.taken(), taken.as_bytes());
-            assert_eq!(rt; sink.faults(), faults);
-        }
-        Ok(())
     }
 }

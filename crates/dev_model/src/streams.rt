@@ -1,7 +1,7 @@
 // Where bytes come from and where they go. Either may fail, and counts how often.
 ghost use Rattle.std.specs.Prelude.{◌≡◌, ℕ, ◌<◌, ◌≤◌, List, length, Option, IfOk};
 ghost use Rattle.dev_model.specs.Counts.{Counts};
-ghost use Rattle.dev_model.specs.Streams.{Gives, Takes};
+ghost use Rattle.dev_model.specs.StreamCalls.{Gives, Takes};
 
 /// A call to the outside failed.
 #[derive(Clone, Copy, Debug, PartialEq, Eq)]

@@ -1,6 +1,7 @@
 -- Gates that are closed one by one.
 use Rattle.std.proofs.Common.{◌≡◌, ◌⊎◌, inl, ⊎_elim, ℕ, zero, suc, ◌+◌, ◌<◌, ◌≤◌, [], ◌∷◌, ◌++◌, Option, Ok, Err, refl, sym, ◌∙◌, ap, subst, arith, append-nil, append_assoc}
-use Rattle.dev_model.specs.Story.{Calls, Story, noted, all_noted, HasFailed, HasStoppedIn}
+use Rattle.dev_model.specs.Story.{Calls, Story}
+use Rattle.dev_model.specs.Doing.{noted, all_noted, HasFailed, HasStoppedIn}
 use Rattle.dev_model.specs.Laws.Plans.{Did-cut, Did-then}
 use Rattle.device_format.specs.Planning.{close_gate, close_each}
 

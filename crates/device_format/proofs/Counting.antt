@@ -25,7 +25,7 @@ counted true indexes pages = omega (arith, rest_length indexes pages)
 counted false indexes pages = omega (arith, rest_length indexes pages)
 
 pub no_open_slot : HaveNoOpenSlot
-no_open_slot pages indexes bytes is_open store = store.recovers.opens.directory 511 (omega arith) is_open
+no_open_slot pages indexes bytes is_open store = store.no_slots 511 (omega arith) is_open
 
 whole : (bytes : Bytes) → part 0 16 bytes ≡ bytes 0 ∷ part 1 15 bytes
 unfolding part

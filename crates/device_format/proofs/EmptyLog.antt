@@ -2,9 +2,9 @@
 use Rattle.std.proofs.Common.{◌≡◌, ℕ, List, [], ◌∷◌, length, Some, None, refl, arith}
 use Rattle.std.proofs.lemmas.List.Elements.{All-cons, All-nil}
 use Rattle.wal_log.specs.Headers.{header_bytes, generation_in, first_lsn_in}
-use Rattle.wal_log.specs.Segments.{Segments, started_segment}
+use Rattle.wal_log.specs.Segments.{Segments}
+use Rattle.wal_log.specs.Growing.{started_segment}
 use Rattle.wal_log.specs.Rules.{Numbered, Opens, IsEnd}
-use Rattle.image_model.specs.Opening.{ends}
 
 abbrev pub first_header : List ℕ
 first_header = header_bytes 0 1
@@ -31,7 +31,7 @@ first_lsn_is = refl
 ends_there : IsEnd None first_segment 0
 ends_there = omega (arith, first_lsn_is)
 
-pub empty_log-opens : Opens ends empty_log
+pub empty_log-opens : Opens (0 ∷ []) empty_log
 unfolding header_bytes
 empty_log-opens = (
   record {

@@ -1,6 +1,7 @@
 -- Calls that were planned, and then more.
 use Rattle.std.proofs.Common.{◌≡◌, ℕ, subst, [], ◌∷◌, ◌++◌, Option, Result, Err}
-use Rattle.dev_model.specs.Story.{Bytes, Calls, Story, after, with_call, all_noted, HasStoppedIn, Did}
+use Rattle.dev_model.specs.Story.{Bytes, Calls, Story, after, with_call}
+use Rattle.dev_model.specs.Doing.{all_noted, HasStoppedIn, Did}
 use Rattle.dev_model.specs.Laws.Plans.{Did-cut, Did-then}
 use Rattle.dev_model.specs.Laws.Runs.{During}
 use Rattle.device_format.specs.Planning.{write_superblock}

@@ -4,8 +4,10 @@ use Rattle.std.specs.Prelude.{OnOk, IsErr}
 use Rattle.std.proofs.lemmas.Bool.{cases_eq}
 use Rattle.std.proofs.lemmas.Bool.Decides.{nat_tests}
 use Rattle.std.proofs.lemmas.Option.{same_Some}
-use Rattle.dev_model.specs.Story.{Bytes, Calls, Story, Read, Write, Sync, after, with_call, bytes_of, patched, Did, HasStoppedIn, WhereTold, IsSettled, IsImageNow}
-use Rattle.dev_model.specs.Moments.{LeavesOnly, AreSpared}
+use Rattle.dev_model.specs.Story.{Bytes, Calls, Story, Read, Write, Sync, after, with_call, bytes_of, patched, WhereTold, IsSettled, IsImageNow}
+use Rattle.dev_model.specs.Doing.{Did, HasStoppedIn}
+use Rattle.dev_model.specs.Moments.{LeavesOnly}
+use Rattle.dev_model.specs.Writes.{AreSpared}
 use Rattle.dev_model.specs.Laws.Frame.{IsSettled-spared, bytes_of-spared}
 use Rattle.dev_model.specs.Laws.Images.{IsReadable-settled}
 use Rattle.dev_model.specs.Laws.Plans.{LeavesOnly-did, Did-untold, all_noted-told, no_story}

@@ -4,15 +4,20 @@ use Rattle.std.specs.FinMap.{empty}
 use Rattle.dev_model.specs.Story.{Bytes, part}
 use Rattle.dev_model.specs.Laws.Ranges.{part-same, get_or-part}
 use Rattle.wal_log.specs.Places.{segment_start, record_start}
-use Rattle.wal_log.specs.Segments.{Segments, segment_at, segment_records, segments_of, started_segment}
+use Rattle.wal_log.specs.Segments.{Segments, segment_at, segment_records, segments_of}
+use Rattle.wal_log.specs.Growing.{started_segment}
 use Rattle.wal_log.specs.Rules.{Opens as LogOpens, records_of}
 use Rattle.wal_log.specs.Laws.Agreeing.{segment_at-started, segment_at-shut}
 use Rattle.image_model.specs.Superblock.{superblock_bytes, declared}
 use Rattle.comp_dir.specs.Places.{slot_start}
 use Rattle.image_model.specs.Directory.{HasNoComponent}
-use Rattle.image_model.specs.Opening.{ends, IsLookedAt, IsLookedInSuperblock, IsSlotGate, IsLookedInLog}
+use Rattle.image_model.specs.Opening.{IsLookedInSuperblock, IsLookedInLog}
 use Rattle.image_model.specs.Recovered.{replayed}
 use Rattle.image_model.specs.declared.places.TheConstants.{LOG_START}
+use Rattle.comp_dir.specs.Directory.{IsLooked}
+use Rattle.component_image.specs.Recovered.{IsLookedAt}
+use Rattle.component_image.specs.Told.{AreTold}
+use Rattle.component_image.specs.Laws.Without.{recovers-alone}
 use Rattle.device_format.specs.Formatting.{IsEmptyStore}
 use Rattle.device_format.proofs.EmptyLog.{first_header, empty_log, empty_log-opens}
 
@@ -24,6 +29,10 @@ pub record IsReady (pages indexes : ℕ) (bytes : Bytes) : Type 0 where
   pub header : part (segment_start LOG_START 0 + 1) 63 bytes ≡ first_header
   pub no_record : bytes (segment_start LOG_START 0 + 64) ≢ 165
   pub others : (k : ℕ) → 0 < k → k < 4 → bytes (segment_start LOG_START k) ≢ 165
+
+-- the gate of a slot
+abbrev pub IsSlotGate : ℕ → Type 0
+IsSlotGate i = (n : ℕ) × (n < 512) × (i ≡ slot_start n)
 
 -- the gate of a segment's header
 abbrev pub IsHeaderGate : ℕ → Type 0
@@ -60,23 +69,27 @@ module _ (pages indexes : ℕ) (bytes : Bytes) (is : IsReady pages indexes bytes
   pub declared_is : declared bytes ≡ indexes
   declared_is = sym (get_or-part 1 15 bytes 1 (omega arith)) ∙ ap (λ (l : List ℕ). get_or l 1 0) is.fields ∙ second_field
 
+  no_records : records_of (segments_of LOG_START bytes) ≡ []
+  no_records = ap records_of log_is
+
   -- with the gate open it is an empty store
   pub ready-store : indexes ≤ 31 → bytes 0 ≡ 165 → IsEmptyStore pages indexes bytes
   ready-store few gate = record {
-    recovers = record {
-      opens = record {
-        formatted = record {
-          gate = gate;
-          fields = is.fields ∙ ap (λ (d : ℕ). superblock_bytes d pages) (sym declared_is);
-          indexes = omega (arith, few, declared_is);
-        };
-        directory = is.slots;
-        log = subst (λ (l : Segments). LogOpens ends l) (sym log_is) empty_log-opens;
-      };
-      table_is = ap (λ (l : Segments). replayed empty (records_of l)) log_is;
-    };
+    recovers =
+        recovers-alone bytes is.slots pages empty
+        (record {
+          formatted = record {
+            gate = gate;
+            fields = is.fields ∙ ap (λ (d : ℕ). superblock_bytes d pages) (sym declared_is);
+            indexes = omega (arith, few, declared_is);
+          };
+          log = subst (λ (l : Segments). LogOpens (0 ∷ []) l) (sym log_is) empty_log-opens;
+          table_is = ap (replayed empty) no_records;
+          told = subst (AreTold empty) (sym no_records) tt;
+        });
     declares = declared_is;
-    no_records = ap records_of log_is;
+    no_slots = is.slots;
+    no_records = no_records;
   }
 
   looked_in_segment : (k : ℕ) → k < 4 → (i : ℕ) → bytes (segment_start LOG_START k) ≡ 165 → segment_start LOG_START k ≤ i → i ≤ record_start LOG_START k (length (segment_records LOG_START k bytes)) → IsBehindGate i
@@ -86,6 +99,10 @@ module _ (pages indexes : ℕ) (bytes : Bytes) (is : IsReady pages indexes bytes
   looked_in_log : (i : ℕ) → IsLookedInLog bytes i → IsBehindGate i
   looked_in_log i looked = ⊎_elim (λ gate. inr (inr (inl (looked.0, looked.1, gate)))) (λ in_it. looked_in_segment looked.0 looked.1 i in_it.0 in_it.1 in_it.2) looked.2
 
+  looked_in_directory : (i : ℕ) → IsLooked bytes i → IsBehindGate i
+  looked_in_directory i (n, lt, inl gate) = inr (inl (n, lt, gate))
+  looked_in_directory i (n, lt, inr body) = absurd (is.slots n lt body.0)
+
   first_or_behind : (i : ℕ) → (i ≡ 0) ⊎ (0 < i)
   first_or_behind i = grind arith
 
@@ -94,4 +111,4 @@ module _ (pages indexes : ℕ) (bytes : Bytes) (is : IsReady pages indexes bytes
 
   -- an opening looks at no other place
   pub ready-looked : (i : ℕ) → IsLookedAt bytes i → (i ≡ 0) ⊎ IsBehindGate i
-  ready-looked i looked = ⊎_elim (looked_in_superblock i) (λ rest. inr (⊎_elim (λ gate. inr (inl gate)) (looked_in_log i) rest)) looked
+  ready-looked i looked = ⊎_elim (looked_in_superblock i) (λ rest. inr (⊎_elim (looked_in_directory i) (looked_in_log i) rest)) looked

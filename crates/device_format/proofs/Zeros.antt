@@ -1,7 +1,7 @@
 -- Gates that were closed: 0 stands there, and can be read.
 use Rattle.std.proofs.Common.{◌≡◌, ◌⊎◌, inl, inr, ⊎_elim, ℕ, zero, suc, ◌-◌, ◌<◌, [], ◌∷◌, ◌++◌, get_or, sym, ◌∙◌, ap, subst, arith}
 use Rattle.dev_model.specs.Story.{Bytes, Calls, Story, Sync, after, with_call, bytes_of, patched, IsReadable, IsOutside}
-use Rattle.dev_model.specs.Moments.{AreSpared}
+use Rattle.dev_model.specs.Writes.{AreSpared}
 use Rattle.dev_model.specs.Laws.Ranges.{patched-outside, patched-inside}
 use Rattle.dev_model.specs.Laws.Runs.{after-append}
 use Rattle.wal_log.specs.Places.{segment_start}

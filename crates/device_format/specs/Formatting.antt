@@ -6,14 +6,15 @@ use Rattle.wal_log.specs.Segments.{segments_of}
 use Rattle.wal_log.specs.Rules.{records_of}
 use Rattle.wal_log.specs.declared.places.TheConstants.{OPEN}
 use Rattle.image_model.specs.Superblock.{declared}
-use Rattle.image_model.specs.Opening.{IsLookedAt}
-use Rattle.image_model.specs.Recovered.{Recovers}
+use Rattle.image_model.specs.Directory.{HasNoComponent}
 use Rattle.image_model.specs.declared.places.TheConstants.{LOG_START}
+use Rattle.component_image.specs.Recovered.{IsLookedAt, Recovers}
 
--- the image of a store of so many pages that has no record, with these declared indexes
+-- the image of a store of so many pages that has no component and no record, with these declared indexes
 pub record IsEmptyStore (pages indexes : ℕ) (bytes : Bytes) : Type 0 where
   pub recovers : Recovers pages empty bytes
   pub declares : declared bytes ≡ indexes
+  pub no_slots : HasNoComponent bytes
   pub no_records : records_of (segments_of LOG_START bytes) ≡ []
 
 -- such a store is what is read, and what each crash leaves where an opening looks

@@ -1,6 +1,7 @@
 -- The calls of a device that formatting it makes.
 use Rattle.std.specs.Prelude.{◌≡◌, ◌+◌, ℕ, zero, suc, [], ◌∷◌, ◌++◌, Bool, if◌then◌else◌, Option, Result, ◌==◌}
-use Rattle.dev_model.specs.Story.{Read, Write, Sync, Call, Calls, Story, WhereTold, Did, Ticks, IsReadable, bytes_of}
+use Rattle.dev_model.specs.Story.{Read, Write, Sync, Call, Calls, Story, WhereTold, IsReadable, bytes_of}
+use Rattle.dev_model.specs.Doing.{Did, Ticks}
 use Rattle.wal_log.specs.Places.{segment_start}
 use Rattle.wal_log.specs.State.{start_calls}
 use Rattle.wal_log.specs.declared.places.TheConstants.{OPEN}

@@ -1,7 +1,8 @@
 // The whole of a format, in its order.
 ghost use Rattle.std.specs.Prelude.{◌≡◌, ◌≤◌, OnOk};
 ghost use Rattle.dev_model.specs.Counts.{HasCause};
-ghost use Rattle.dev_model.specs.Story.{WhereTold, IsSettled, Did, Ticks};
+ghost use Rattle.dev_model.specs.Story.{WhereTold, IsSettled};
+ghost use Rattle.dev_model.specs.Doing.{Did, Ticks};
 ghost use Rattle.dev_model.specs.Moments.{LeavesOnly};
 ghost use Rattle.device_format.specs.Planning.{Formats, write_calls, write_ticks};
 ghost use Rattle.device_format.specs.Formatting.{IsFreshStore, HasNoStore, IsBeforeOrAfter, IsNoneOrEmpty};

@@ -1,7 +1,8 @@
 // The gates that are closed before anything else is written.
 ghost use Rattle.std.specs.Prelude.{◌≡◌, ◌≤◌, ◌∷◌, [], IfOk, if◌then◌else◌};
 ghost use Rattle.dev_model.specs.Counts.{HasCause};
-ghost use Rattle.dev_model.specs.Story.{WhereTold, Read, Did, Ticks};
+ghost use Rattle.dev_model.specs.Story.{WhereTold, Read};
+ghost use Rattle.dev_model.specs.Doing.{Did, Ticks};
 ghost use Rattle.comp_dir.specs.Places.{slot_start};
 ghost use Rattle.wal_log.specs.Places.{segment_start};
 ghost use Rattle.device_format.specs.Planning.{TellsGate, close_each, close_gates, close_superblock_if};

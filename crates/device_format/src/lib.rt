@@ -9,6 +9,3 @@ mod superblock;
 pub use examples::{empty_stores, worked_formats};
 pub use format::format_dev;
 pub use superblock::spelled as superblock_bytes;
-
-#[cfg(test)]
-mod tests;

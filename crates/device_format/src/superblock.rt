@@ -1,7 +1,7 @@
 // The superblock's bytes, and how they are written.
 ghost use Rattle.std.specs.Prelude.{◌≡◌, ◌≤◌};
 ghost use Rattle.dev_model.specs.Counts.{HasCause};
-ghost use Rattle.dev_model.specs.Story.{Did, Ticks};
+ghost use Rattle.dev_model.specs.Doing.{Did, Ticks};
 ghost use Rattle.image_model.specs.Superblock.{superblock_bytes};
 ghost use Rattle.device_format.specs.Planning.{write_superblock};
 

@@ -3,11 +3,14 @@ use Rattle.std.proofs.Common.{◌≡◌, inl, inr, ℕ, ◌+◌, ◌-◌, ◌*�
 use Rattle.std.specs.Prelude.{IsTrue, OnOk, is_ok, nat_lt, if◌then◌else◌}
 use Rattle.space_map.specs.declared.space.Extent.{Extent}
 use Rattle.dev_model.specs.Counts.{next_count}
-use Rattle.dev_model.specs.Story.{Read, FailedCall, Calls, Story, clock_of, with_call, bytes_of, noted, all_noted, HasChangedNothing, Tells, WhereTold, IsReadable, IsReadFrom, part}
+use Rattle.dev_model.specs.Story.{Read, FailedCall, Calls, Story, clock_of, with_call, bytes_of, WhereTold, IsReadable, part}
+use Rattle.dev_model.specs.Doing.{noted, all_noted, HasChangedNothing}
+use Rattle.dev_model.specs.Answers.{Tells, IsReadFrom}
 use Rattle.dev_model.specs.Laws.Ranges.{part-read}
 use Rattle.device_pages.specs.declared.lending.TheConstants.{PAGE_BYTES}
 use Rattle.device_pages.specs.Asked.{Seen, Asked}
-use Rattle.device_pages.specs.Lending.{is_lent, IsLentPlace, page_bytes, contents_of}
+use Rattle.device_pages.specs.Lending.{is_lent, page_bytes, contents_of}
+use Rattle.device_pages.specs.LentPlaces.{IsLentPlace}
 use Rattle.device_pages.specs.Laws.Lending.{contents-told}
 
 -- a call that failed is told, but at the clock's last value

@@ -1,10 +1,7 @@
 -- What asking for pages makes of a device.
 use Rattle.std.specs.Prelude.{◌≡◌, ℕ, ◌+◌, ◌-◌, ◌*◌, ◌^◌, Bool, true, false, nat_lt, if◌then◌else◌, List, [], ◌∷◌, length, map, Option}
-use Rattle.dev_model.specs.Counts.{next_count}
-use Rattle.dev_model.specs.DeviceCalls.{made_at}
-use Rattle.dev_model.specs.declared.calls.DeviceCall.{DeviceCall}
-use Rattle.dev_model.specs.declared.calls.DeviceAct.TheVariants.{ReadAt}
-use Rattle.dev_model.specs.Story.{Call, Read, FailedCall, Calls, Story, all_noted}
+use Rattle.dev_model.specs.Story.{Call, Read, FailedCall, Calls, Story}
+use Rattle.dev_model.specs.Doing.{all_noted}
 use Rattle.device_pages.specs.declared.lending.TheConstants.{PAGE_BYTES}
 
 -- what a reader sees of a device
@@ -30,12 +27,6 @@ calls_of clock ((page, false) ∷ asked) = if nat_lt clock (2 ^ 64 - 1) then Fai
 -- the pages that were asked for, given or not
 abbrev pub pages_of : List (ℕ × Bool) → List ℕ
 pages_of asked = map (λ x. x.0) asked
-
--- the reads that succeeded, each with the clock right after it
-abbrev pub reads_made : ℕ → List (ℕ × Bool) → List DeviceCall
-reads_made clock [] = []
-reads_made clock ((page, true) ∷ asked) = made_at (clock + 1) (ReadAt (page * PAGE_BYTES) PAGE_BYTES) ∷ reads_made (clock + 1) asked
-reads_made clock ((page, false) ∷ asked) = reads_made (next_count clock) asked
 
 -- these pages, each given or not, were asked for in turn, and nothing else was done
 pub record Asked (asked : List (ℕ × Bool)) (old new : Seen) : Type 0 where

@@ -1,12 +1,16 @@
 -- What asking for lent pages makes of a device.
 use Rattle.std.specs.Prelude.{◌≡◌, ◌↔◌, ℕ, ◌+◌, ◌*◌, Bool, true, List, length, map, Contains, Option, Some, None, IsTrue}
 use Rattle.space_map.specs.declared.space.Extent.{Extent}
-use Rattle.dev_model.specs.Story.{FailedWrite, Calls, Story, clock_of, after, noted, IsInside, IsReadable, IsCalmAt}
-use Rattle.dev_model.specs.Moments.{ReadsWithin, AreSpared}
+use Rattle.dev_model.specs.Story.{FailedWrite, Calls, Story, clock_of, after, IsInside, IsReadable, IsCalmAt}
+use Rattle.dev_model.specs.Doing.{noted}
+use Rattle.dev_model.specs.Moments.{ReadsWithin}
+use Rattle.dev_model.specs.Writes.{AreSpared}
 use Rattle.dev_model.specs.DeviceCalls.{ok_calls}
 use Rattle.device_pages.specs.declared.lending.TheConstants.{PAGE_BYTES}
-use Rattle.device_pages.specs.Asked.{Seen, Asked, pages_of, reads_made}
-use Rattle.device_pages.specs.Lending.{is_lent, IsLentPlace, page_bytes, contents_of}
+use Rattle.device_pages.specs.Asked.{Seen, Asked, pages_of}
+use Rattle.device_pages.specs.ReadsMade.{reads_made}
+use Rattle.device_pages.specs.Lending.{is_lent, page_bytes, contents_of}
+use Rattle.device_pages.specs.LentPlaces.{IsLentPlace}
 
 -- a device that tells made these reads and no other call that succeeded
 pub record MadeReads (asked : List (ℕ × Bool)) (s : Story) (now : Option Story) : Type 0 where

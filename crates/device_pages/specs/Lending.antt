@@ -1,5 +1,5 @@
 -- Which pages of a device are lent, and what is on them.
-use Rattle.std.specs.Prelude.{ℕ, zero, suc, ◌+◌, ◌*◌, ◌<◌, ◌≤◌, Bool, IsTrue, true, ◌&&◌, ◌||◌, not, nat_le, nat_lt, if◌then◌else◌, List, [], ◌∷◌, length, Option, Some, None}
+use Rattle.std.specs.Prelude.{ℕ, zero, suc, ◌+◌, ◌*◌, Bool, true, ◌&&◌, ◌||◌, not, nat_le, nat_lt, if◌then◌else◌, List, [], ◌∷◌, length, Option, Some, None}
 use Rattle.std.specs.List.{list_any, list_all}
 use Rattle.space_map.specs.declared.space.Extent.{Extent}
 use Rattle.space_map.specs.Space.{is_in}
@@ -8,13 +8,6 @@ use Rattle.device_pages.specs.declared.lending.TheConstants.{PAGE_BYTES}
 
 abbrev pub is_lent : List Extent → ℕ → Bool
 is_lent extents page = list_any (is_in page) extents
-
--- a place of a lent page
-pub record IsLentPlace (extents : List Extent) (i : ℕ) : Type 0 where
-  pub page : ℕ
-  pub lent : IsTrue (is_lent extents page)
-  pub from : page * PAGE_BYTES ≤ i
-  pub to : i < page * PAGE_BYTES + PAGE_BYTES
 
 abbrev pub is_inside : (at count i : ℕ) → Bool
 is_inside at count i = nat_le at i && nat_lt i (at + count)

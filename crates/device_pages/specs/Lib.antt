@@ -2,3 +2,5 @@ pub mod Asked
 pub mod Claims
 pub mod Laws
 pub mod Lending
+pub mod LentPlaces
+pub mod ReadsMade

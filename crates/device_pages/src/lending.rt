@@ -70,6 +70,3 @@ impl<D: Device> Pages for DevicePages<'_, D> {
           (seen D.pages D.clock D.story third.device.now) xs ys so_far.2 more.2,
     ) };
 }
-
-#[cfg(test)]
-mod tests;

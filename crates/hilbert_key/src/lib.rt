@@ -221,6 +221,3 @@ pub fn square_values(x: Coord, y: Coord, order: u32) -> (CurveValue, CurveValue)
     let first = squares_before(x, y, order) * side * side;
     (first, first + ((side - 1) * side + (side - 1)))
 }
-
-#[cfg(test)]
-mod tests;

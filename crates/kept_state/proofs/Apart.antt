@@ -3,15 +3,18 @@ use Rattle.std.proofs.Common.{◌≡◌, ◌⊎◌, inl, inr, ℕ, suc, ◌≤�
 use Rattle.std.proofs.lemmas.Bool.Decides.{nat_tests}
 use Rattle.std.specs.Prelude.{IsTrue}
 use Rattle.dev_model.specs.Story.{Story, IsOutside}
-use Rattle.dev_model.specs.Moments.{WritesWithin}
+use Rattle.dev_model.specs.Writes.{WritesWithin}
 use Rattle.space_map.specs.Space.{is_in}
 use Rattle.table_model.specs.Table.{Table}
 use Rattle.wal_log.specs.declared.places.TheConstants.{LOG_BYTES}
 use Rattle.image_model.specs.declared.places.TheConstants.{LOG_START}
 use Rattle.comp_dir.specs.Directory.{Numbered}
 use Rattle.comp_dir.specs.declared.places.TheConstants.{FIRST_DATA_PAGE}
-use Rattle.device_pages.specs.Lending.{is_lent, IsLentPlace}
-use Rattle.store_state.specs.Lists.{Lists, IsLists, IsOpenSlot, extent_of, extents_of}
+use Rattle.device_pages.specs.Lending.{is_lent}
+use Rattle.device_pages.specs.LentPlaces.{IsLentPlace}
+use Rattle.primary_ix.specs.declared.rows.PrimRow.{PrimRow}
+use Rattle.store_state.specs.Lists.{Lists, extent_of, extents_of}
+use Rattle.store_state.specs.EveryList.{IsLists, IsOpenSlot}
 use Rattle.kept_state.specs.Reading.{IsLegible}
 use Rattle.kept_state.specs.Laws.ReadingPages.{one_or_other, components-open}
 use Rattle.kept_state.specs.Laws.ReadingStays.{legible-within}
@@ -34,5 +37,5 @@ outside-log l lists i place =
     inr (omega (arith, page, place.from))
 
 -- calls that write in the log alone leave the store legible
-pub legible-logged : (table : Table) (l : Lists) (s t : Story) (now : Option Story) → IsLists l → IsLegible table l s → WritesWithin LOG_START LOG_BYTES s now → now ≡ Some t → IsLegible table l t
-legible-logged table l s t now lists legible within told = legible-within table l s t LOG_START LOG_BYTES now lists legible within told (outside-log l lists)
+pub legible-logged : (table : Table) (disk : List (List PrimRow)) (l : Lists) (s t : Story) (now : Option Story) → IsLists l → IsLegible table disk l s → WritesWithin LOG_START LOG_BYTES s now → now ≡ Some t → IsLegible table disk l t
+legible-logged table disk l s t now lists legible within told = legible-within table disk l s t LOG_START LOG_BYTES now lists legible within told (outside-log l lists)

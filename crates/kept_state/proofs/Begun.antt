@@ -1,8 +1,9 @@
 -- The store after a job was begun.
-use Rattle.std.proofs.Common.{◌≡◌, ℕ, arith}
+use Rattle.std.proofs.Common.{◌≡◌, ℕ, List, arith}
 use Rattle.dev_model.specs.Story.{Story}
 use Rattle.table_model.specs.Table.{Table}
 use Rattle.wal_log.specs.declared.log.Log.{Log}
+use Rattle.primary_ix.specs.declared.rows.PrimRow.{PrimRow}
 use Rattle.store_state.specs.declared.jobs.JobRow.{JobRow}
 use Rattle.store_state.specs.Lists.{Lists}
 use Rattle.store_state.specs.Steps.{begun}
@@ -25,5 +26,5 @@ kept-begun pages log table l s row kept none = record {
   under_way = record { pages = λ n lt. absurd (omega (arith, lt, none)); readable = λ page i lt on. absurd (omega (arith, lt, none)) };
 }
 
-pub legible-begun : (table : Table) (l : Lists) (s : Story) (row : JobRow) → IsLegible table l s → IsLegible table (begun row l) s
-legible-begun table l s row legible = record { disk = legible.disk; shown = legible.shown; fits = legible.fits }
+pub legible-begun : (table : Table) (disk : List (List PrimRow)) (l : Lists) (s : Story) (row : JobRow) → IsLegible table disk l s → IsLegible table disk (begun row l) s
+legible-begun table disk l s row legible = record { shown = legible.shown; fits = legible.fits }

@@ -12,7 +12,8 @@ use Rattle.wal_log.specs.Later.{later}
 use Rattle.wal_log.specs.Laws.Later.{numbered-end}
 use Rattle.wal_log.specs.Rules.{Numbered as NumberedSegment, AreSound, in_order, records_in, records_of}
 use Rattle.wal_log.specs.Segments.{segments_of}
-use Rattle.wal_log.specs.State.{IsCounted, HasLast}
+use Rattle.wal_log.specs.State.{HasLast}
+use Rattle.wal_log.specs.Counted.{IsCounted}
 use Rattle.wal_log.specs.declared.log.Log.{Log}
 use Rattle.wal_log.specs.declared.records.Record.{Record}
 use Rattle.image_model.specs.declared.places.TheConstants.{LOG_START}
@@ -29,7 +30,8 @@ use Rattle.component_image.specs.Recovered.{primary_of}
 use Rattle.component_image.specs.Laws.Agreeing.{IsPrimary, primaries}
 use Rattle.component_image.specs.Laws.Components.{AllOf}
 use Rattle.component_image.specs.Laws.Counting.{rows-below}
-use Rattle.store_state.specs.Lists.{Lists, IsLists, IsOpenSlot}
+use Rattle.store_state.specs.Lists.{Lists}
+use Rattle.store_state.specs.EveryList.{IsLists, IsOpenSlot}
 use Rattle.kept_state.specs.Keeping.{IsKept}
 
 -- the rows of a tree of the primary fill its leaves at most

@@ -1,7 +1,7 @@
 -- The store after its active list was frozen.
 use Rattle.std.proofs.Common.{◌≡◌, ℕ, ◌+◌, List, [], ◌++◌, length, append-nil, Option, Some, None, refl, sym, ◌∙◌, ap, subst, arith}
 use Rattle.dev_model.specs.Story.{Story, bytes_of}
-use Rattle.dev_model.specs.Moments.{WritesWithin}
+use Rattle.dev_model.specs.Writes.{WritesWithin}
 use Rattle.table_model.specs.Table.{Table, rows_of}
 use Rattle.wal_log.specs.Later.{later}
 use Rattle.wal_log.specs.Rules.{records_of}
@@ -17,9 +17,11 @@ use Rattle.component_image.specs.Laid.{table_of}
 use Rattle.component_image.specs.Recovered.{primary_of}
 use Rattle.component_image.specs.Resting.{Rests}
 use Rattle.store_state.specs.declared.jobs.JobRow.{JobRow}
-use Rattle.store_state.specs.Lists.{Lists, IsCut, IsLists, IsPlannedIf, placed_up_to}
+use Rattle.store_state.specs.Lists.{Lists, placed_up_to}
+use Rattle.store_state.specs.EveryList.{IsCut, IsLists, IsPlannedIf}
 use Rattle.store_state.specs.Steps.{frozen_at}
-use Rattle.kept_state.specs.Keeping.{IsNumbered, IsKept, IsFrozenOf, IsUnderWayIf}
+use Rattle.kept_state.specs.Keeping.{IsKept, IsFrozenOf, IsUnderWayIf}
+use Rattle.kept_state.specs.Numbered.{IsNumbered}
 use Rattle.kept_state.proofs.Stays.{components-stay, slots-stay, end-is, end-stays}
 
 -- where nothing is frozen the components end right before the newest segment

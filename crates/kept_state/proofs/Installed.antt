@@ -1,10 +1,11 @@
 -- The store after the component of its job was installed, or wasn't.
-use Rattle.std.proofs.Common.{◌≡◌, ◌≢◌, ◌⊎◌, inl, inr, ⊎_elim, ℕ, zero, suc, ◌+◌, ◌*◌, ◌<◌, ◌≤◌, List, [], ◌∷◌, ◌++◌, map, length, get_or, All, Option, Some, None, Contains, ◌↔◌, refl, sym, ◌∙◌, ap, subst, arith}
+use Rattle.std.proofs.Common.{◌≡◌, ◌≢◌, ◌⊎◌, inl, inr, ⊎_elim, ℕ, zero, suc, ◌+◌, ◌-◌, ◌*◌, ◌<◌, ◌≤◌, List, [], ◌∷◌, ◌++◌, map, length, get_or, All, Option, Some, None, Contains, ◌↔◌, refl, sym, ◌∙◌, ap, subst, arith}
 use Rattle.std.proofs.lemmas.List.Elements.{All-head, All-tail, Contains-append_left, Contains-append_right, Contains-append_cases}
+use Rattle.std.proofs.lemmas.Bool.Decides.{nat_tests}
 use Rattle.std.proofs.lemmas.Option.{none-some}
-use Rattle.std.specs.Prelude.{OnErr, Result, Ok, Err}
-use Rattle.dev_model.specs.Story.{Story, bytes_of}
-use Rattle.dev_model.specs.Moments.{WritesWithin}
+use Rattle.std.specs.Prelude.{IsTrue, OnErr, Result, Ok, Err}
+use Rattle.dev_model.specs.Story.{Story, bytes_of, IsReadable}
+use Rattle.dev_model.specs.Writes.{WritesWithin}
 use Rattle.table_model.specs.Table.{Table, rows_of}
 use Rattle.wal_log.specs.Later.{later}
 use Rattle.wal_log.specs.Rules.{records_of}
@@ -19,26 +20,40 @@ use Rattle.comp_dir.specs.Laws.Agreeing.{directory-at, slot_at-open}
 use Rattle.comp_dir.specs.Laws.Spelled.{slot-back}
 use Rattle.comp_dir.specs.Places.{slot_start}
 use Rattle.comp_dir.specs.Rules.{IsSound}
-use Rattle.comp_dir.specs.Slots.{HasRanges, slot_bytes, slot_of}
+use Rattle.comp_dir.specs.Slots.{slot_bytes, slot_of}
+use Rattle.comp_dir.specs.Ranges.{HasRanges}
 use Rattle.comp_dir.specs.State.{IsClosed, with_slot}
 use Rattle.comp_dir.specs.declared.places.TheConstants.{LSN_LIMIT}
 use Rattle.comp_dir.specs.declared.slots.Slot.{Slot}
+use Rattle.page_codec.specs.declared.pages.TheConstants.{PAGE_BYTES}
+use Rattle.space_map.specs.Space.{is_in}
+use Rattle.btree_image.specs.Pages.{IsShown}
+use Rattle.device_pages.specs.Lending.{is_lent, page_bytes, contents_of}
+use Rattle.device_pages.specs.LentPlaces.{IsLentPlace}
+use Rattle.device_pages.specs.Laws.Lending.{contents-readable}
+use Rattle.primary_ix.specs.Rows.{prim_layout}
 use Rattle.primary_ix.specs.declared.rows.PrimRow.{PrimRow}
-use Rattle.build_job.specs.Jobs.{Job, IsJob, IsPlaceable, described, steps_left}
+use Rattle.build_job.specs.Jobs.{Job, described}
+use Rattle.build_job.specs.Steps.{IsJob, IsPlaceable, steps_left}
+use Rattle.build_job.specs.Laws.Showing.{AreWritten-shows}
 use Rattle.component_image.specs.Components.{IsInExtent, IsInExtents}
 use Rattle.component_image.specs.Content.{Count}
 use Rattle.component_image.specs.Laid.{table_of}
 use Rattle.component_image.specs.Recovered.{primary_of}
-use Rattle.component_image.specs.Resting.{MayStand, Rests}
+use Rattle.component_image.specs.Resting.{Rests}
+use Rattle.component_image.specs.Standing.{MayStand}
 use Rattle.store_steps.specs.Steps.{IsWritten}
 use Rattle.store_state.specs.declared.jobs.JobRow.{JobRow}
-use Rattle.store_state.specs.Lists.{Lists, IsCut, IsLists, IsJobOf, IsOpenSlot, IsPlanned, IsPlannedIf, open_of, placed_up_to, job_of}
+use Rattle.store_state.specs.Lists.{Lists, frozen_rows, open_of, placed_up_to, job_of}
+use Rattle.store_state.specs.EveryList.{IsCut, IsLists, IsOpenSlot, IsPlanned, IsPlannedIf}
+use Rattle.store_state.specs.OwnJob.{IsJobOf}
 use Rattle.store_state.specs.Steps.{installed}
-use Rattle.kept_state.specs.Keeping.{IsKept, IsNumbered, IsUnderWay, IsUnderWayIf, IsOnPage}
+use Rattle.kept_state.specs.Keeping.{IsKept, IsUnderWay, IsUnderWayIf, IsOnPage}
+use Rattle.kept_state.specs.Numbered.{IsNumbered}
 use Rattle.kept_state.specs.Reading.{IsLegible}
 use Rattle.kept_state.specs.Laws.Installing.{active-later, may-be-added, may-stand}
-use Rattle.kept_state.specs.Laws.ReadingPages.{components-open, lent-inside}
-use Rattle.kept_state.specs.Laws.ReadingStays.{legible-within}
+use Rattle.kept_state.specs.Laws.ReadingPages.{one_or_other, components-open, lent-inside}
+use Rattle.kept_state.specs.Laws.ReadingStays.{legible-installed, legible-within}
 
 -- what holds anyway holds after a failure
 pub after-failure : {X E : Type 0} (r : Result X E) (P : Type 0) → P → OnErr r P
@@ -115,10 +130,60 @@ module _ (l : Lists) (lists : IsLists l) (owner : ℕ) (job : Job) (of : IsJobOf
   own-rules = subst IsJob of.same rules
 
   -- calls on the slot leave the store legible
-  pub legible-apart : (table : Table) (s t : Story) (now : Option Story) → WritesWithin (slot_start n) 64 s now → now ≡ Some t → IsLegible table l s → IsLegible table l t
-  legible-apart table s t now within told legible =
-      legible-within table l s t (slot_start n) 64 now lists legible within told
+  pub legible-apart : (table : Table) (disk : List (List PrimRow)) (s t : Story) (now : Option Story) → WritesWithin (slot_start n) 64 s now → now ≡ Some t → IsLegible table disk l s → IsLegible table disk l t
+  legible-apart table disk s t now within told legible =
+      legible-within table disk l s t (slot_start n) 64 now lists legible within told
       (λ i place. inr (omega (arith, number, planned.slot, behind-log l.space.pages l.components i (components-open l lists) (lent-inside l.components i place))))
+
+  module _ (pages : ℕ) (log : Log) (table : Table) (s : Story) (kept : IsKept pages log table l s) where
+    own-pages : IsUnderWay l of.row s
+    own-pages = subst (λ (j : Option JobRow). IsUnderWayIf l j s) of.is kept.under_way
+
+    -- each place of the job's extent can be read
+    extent-readable : (i : ℕ) → IsLentPlace (of.row.plan.extent ∷ []) i → IsReadable s.past i
+    extent-readable i place = by_side (one_or_other of.row.plan.extent [] place.page place.lent)
+      where
+        by_side : IsTrue (is_in place.page of.row.plan.extent) ⊎ IsTrue (is_lent [] place.page) → IsReadable s.past i
+        by_side (inl here) =
+            let low : of.row.plan.extent.first ≤ place.page = grind (arith, nat_tests) in
+            let high : place.page < of.row.plan.extent.first + of.row.plan.extent.pages = grind (arith, nat_tests) in
+            let all : of.row.plan.extent.pages ≤ of.row.written = omega (arith, none-left) in
+            let from : place.page * PAGE_BYTES ≤ i = place.from in
+            let to : i < place.page * PAGE_BYTES + PAGE_BYTES = place.to in
+            let at : of.row.plan.extent.first + (place.page - of.row.plan.extent.first) ≡ place.page = omega (arith, low) in
+            own-pages.readable (place.page - of.row.plan.extent.first) i (omega (arith, low, high, all))
+            (record { from = omega (arith, at, from); to = omega (arith, at, to) })
+        by_side (inr nowhere) = cc
+
+    -- its pages show the frozen list
+    job-shown : IsShown prim_layout (contents_of (of.row.plan.extent ∷ []) (Some s)) of.row.plan.extent.first (length (frozen_rows l.frozen)) (frozen_rows l.frozen)
+    job-shown = record {
+      bytes = page_bytes s;
+      told = contents-readable (of.row.plan.extent ∷ []) s extent-readable;
+      is = record { count = refl; ascends = lists.frozen_ascends; stored = lists.frozen_stored };
+      shows = AreWritten-shows (job_of l of.row) (page_bytes s) own-rules none-left own-pages.pages;
+    }
+
+    -- so the lists behind the install are legible before it, with the frozen list as the newest one on the disk
+    legible-ahead : (disk : List (List PrimRow)) → IsLegible table disk l s → IsLegible table (frozen_rows l.frozen ∷ disk) (installed of.row l) s
+    legible-ahead disk legible = by_frozen l.frozen refl
+      where
+        by_frozen : (frozen : Option (List PrimRow)) → l.frozen ≡ frozen → IsLegible table (frozen_rows l.frozen ∷ disk) (installed of.row l) s
+        by_frozen None none = absurd (planned.frozen none)
+        by_frozen (Some rows) some =
+            let same : frozen_rows l.frozen ≡ rows = ap frozen_rows some in
+            subst (λ (x : List PrimRow). IsLegible table (x ∷ disk) (installed of.row l) s) (sym same)
+            (legible-installed table disk l s of.row rows some
+            (subst (λ (x : List PrimRow). IsShown prim_layout (contents_of (of.row.plan.extent ∷ []) (Some s)) of.row.plan.extent.first (length x) x) same job-shown)
+            legible)
+
+  -- and calls on the slot leave them so
+  pub legible-placed : (table : Table) (disk : List (List PrimRow)) (s t : Story) (now : Option Story) → WritesWithin (slot_start n) 64 s now → now ≡ Some t → IsLegible table disk l s
+      → IsLists (installed of.row l) → (pages : ℕ) (log : Log) → IsKept pages log table l s → IsLegible table (job.rows ∷ disk) (installed of.row l) t
+  legible-placed table disk s t now within told legible sound pages log kept =
+      subst (λ (j : Job). IsLegible table (j.rows ∷ disk) (installed of.row l) t) (sym of.same)
+      (legible-within table (frozen_rows l.frozen ∷ disk) (installed of.row l) s t (slot_start n) 64 now sound (legible-ahead pages log table s kept disk legible) within told
+      (λ i place. inr (omega (arith, number, planned.slot, behind-log l.space.pages (installed of.row l).components i (components-open (installed of.row l) sound) (lent-inside (installed of.row l).components i place)))))
 
   module _ (pages : ℕ) (log : Log) (table : Table) (s : Story) (kept : IsKept pages log table l s) (numbered : IsNumbered log l) (on_device : l.space.pages ≤ pages) (below : l.cut < LSN_LIMIT)
       (is_sound : IsPlaceable pages job → IsSound pages 0 slot) (ranges : HasRanges slot) where

@@ -2,7 +2,7 @@
 use Rattle.std.proofs.Common.{◌≡◌, ℕ, ◌+◌, ◌-◌, ◌^◌, ◌<◌, ◌≤◌, List, [], ◌∷◌, ◌++◌, length, length-append, Option, Some, None, is_some, refl, sym, ◌∙◌, ap, arith}
 use Rattle.std.proofs.lemmas.List.{append_assoc}
 use Rattle.dev_model.specs.Story.{Story, bytes_of}
-use Rattle.dev_model.specs.Moments.{WritesWithin}
+use Rattle.dev_model.specs.Writes.{WritesWithin}
 use Rattle.order_merge.specs.Adding.{with_entry}
 use Rattle.table_model.specs.Table.{Table, rows_of}
 use Rattle.table_model.specs.Answers.{after_write}
@@ -23,9 +23,11 @@ use Rattle.component_image.specs.Laid.{table_of}
 use Rattle.component_image.specs.Recovered.{primary_of}
 use Rattle.component_image.specs.Resting.{Rests}
 use Rattle.component_image.specs.Told.{SaysOld}
-use Rattle.store_state.specs.Lists.{Lists, IsCut, IsLists, placed_up_to}
+use Rattle.store_state.specs.Lists.{Lists, placed_up_to}
+use Rattle.store_state.specs.EveryList.{IsCut, IsLists}
 use Rattle.store_state.specs.Steps.{added, rows_with}
-use Rattle.kept_state.specs.Keeping.{IsNumbered, IsKept}
+use Rattle.kept_state.specs.Keeping.{IsKept}
+use Rattle.kept_state.specs.Numbered.{IsNumbered}
 use Rattle.kept_state.proofs.Counting.{rows-written, told-had}
 use Rattle.kept_state.proofs.Stays.{components-stay, slots-stay, end-is, end-stays, lists-stay, job-stays}
 

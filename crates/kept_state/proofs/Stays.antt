@@ -2,7 +2,7 @@
 use Rattle.std.proofs.Common.{◌≡◌, inr, ℕ, ◌+◌, ◌*◌, ◌≤◌, List, [], ◌∷◌, map, Option, Some, None, Contains, ◌↔◌, refl, sym, ◌∙◌, ap, subst, arith}
 use Rattle.std.proofs.lemmas.Option.{same_Some}
 use Rattle.dev_model.specs.Story.{Call, Calls, Read, Write, Sync, FailedWrite, FailedCall, Story, after, with_call, bytes_of, IsOutside, IsReadable, IsSpared}
-use Rattle.dev_model.specs.Moments.{WritesWithin, AreSpared}
+use Rattle.dev_model.specs.Writes.{WritesWithin, AreSpared}
 use Rattle.dev_model.specs.Laws.Frame.{bytes_of-spared}
 use Rattle.dev_model.specs.Laws.Ranges.{part-same}
 use Rattle.table_model.specs.Table.{Table}
@@ -16,12 +16,14 @@ use Rattle.build_job.specs.Jobs.{Job}
 use Rattle.build_job.specs.Written.{IsPageOf, AreWritten}
 use Rattle.component_image.specs.Components.{components, end_of}
 use Rattle.component_image.specs.Content.{page_at, ShowAll}
-use Rattle.component_image.specs.Recovered.{primary_of, IsBeside, Recovers}
+use Rattle.component_image.specs.Recovered.{primary_of, Recovers}
+use Rattle.component_image.specs.Beside.{IsBeside}
 use Rattle.component_image.specs.Laws.Agreeing.{AgreeBeside, primaries, ShowAll-same}
 use Rattle.component_image.specs.Laws.Resting.{beside-log, beside-agrees}
 use Rattle.component_image.specs.Laws.Showing.{same_lists_shown}
 use Rattle.store_state.specs.declared.jobs.JobRow.{JobRow}
-use Rattle.store_state.specs.Lists.{Lists, IsPlanned, IsPlannedIf, open_of, placed_up_to, job_of}
+use Rattle.store_state.specs.Lists.{Lists, open_of, placed_up_to, job_of}
+use Rattle.store_state.specs.EveryList.{IsPlanned, IsPlannedIf}
 use Rattle.kept_state.specs.Keeping.{IsKept, IsUnderWay, IsUnderWayIf}
 
 readable_with : (s : Story) (call : Call) (i : ℕ) → IsSpared call i → IsReadable s.past i → IsReadable (with_call s call).past i

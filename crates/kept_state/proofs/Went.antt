@@ -13,8 +13,9 @@ use Rattle.tree_shape.specs.Asked.{Went, reads_of, given_but_last}
 use Rattle.device_pages.specs.Asked.{Seen, Asked, seen, calls_of, pages_of}
 use Rattle.device_pages.specs.Lending.{is_lent}
 use Rattle.device_pages.specs.Laws.Asked.{asked-none, story-asked, ok_calls-asked, pages_of-given, ReadsWithin-asked}
-use Rattle.store_state.specs.Lists.{Lists, IsLists, extents_of}
-use Rattle.kept_state.specs.Reading.{HasRead, IsOnlyRead, IsPageIn}
+use Rattle.store_state.specs.Lists.{Lists, extents_of}
+use Rattle.store_state.specs.EveryList.{IsLists}
+use Rattle.kept_state.specs.OnlyRead.{HasRead, IsOnlyRead, IsPageIn}
 use Rattle.kept_state.specs.Laws.ReadingStays.{legible-reads, kept-reads, images-reads}
 
 pages_of-but_last : (pages : List ℕ) → pages_of (given_but_last pages) ≡ pages
@@ -51,7 +52,7 @@ module _ (l : Lists) where
       record {
         reads = run;
         images = LeavesOnly-reads (IsPageIn l) s new.story run;
-        legible = λ table legible t now. legible-reads (IsPageIn l) s new.story run t now table l is legible;
+        legible = λ table disk legible t now. legible-reads (IsPageIn l) s new.story run t now table disk l is legible;
         kept = λ log table kept t now. kept-reads (IsPageIn l) s new.story run t now old.pages log table l kept;
         any_moment = λ log table kept. images-reads (IsPageIn l) s new.story run old.pages log table kept.rests;
       }

@@ -4,8 +4,9 @@ use Rattle.std.proofs.lemmas.Bool.Decides.{nat_tests}
 use Rattle.std.proofs.lemmas.Option.{same_Some}
 use Rattle.std.specs.Prelude.{IsTrue, Result, Ok, Err}
 use Rattle.std.specs.Result.{IsErr}
-use Rattle.dev_model.specs.Story.{Bytes, Calls, Did, HasStoppedIn, Story, after, bytes_of, IsOutside, IsReadable}
-use Rattle.dev_model.specs.Moments.{WritesWithin}
+use Rattle.dev_model.specs.Story.{Bytes, Calls, Story, after, bytes_of, IsOutside, IsReadable}
+use Rattle.dev_model.specs.Doing.{Did, HasStoppedIn}
+use Rattle.dev_model.specs.Writes.{WritesWithin}
 use Rattle.dev_model.specs.Laws.Frame.{bytes_of-spared}
 use Rattle.dev_model.specs.Laws.Ranges.{part-same}
 use Rattle.table_model.specs.Table.{Table, rows_of}
@@ -20,20 +21,24 @@ use Rattle.comp_dir.specs.Directory.{Directory, Numbered, directory_of, open_slo
 use Rattle.comp_dir.specs.declared.places.TheConstants.{FIRST_DATA_PAGE, PRIMARY}
 use Rattle.comp_dir.specs.declared.slots.Slot.{Slot}
 use Rattle.primary_ix.specs.declared.rows.PrimRow.{PrimRow}
-use Rattle.build_job.specs.Jobs.{Job, steps_left}
+use Rattle.build_job.specs.Jobs.{Job}
+use Rattle.build_job.specs.Steps.{steps_left}
 use Rattle.build_job.specs.Written.{IsPageOf}
 use Rattle.build_job.specs.Laws.Showing.{AreWritten-next}
 use Rattle.component_image.specs.Components.{components, IsInExtents}
 use Rattle.component_image.specs.Content.{page_at, ShowAll}
 use Rattle.component_image.specs.Laid.{table_of}
-use Rattle.component_image.specs.Recovered.{primary_of, IsBeside}
+use Rattle.component_image.specs.Recovered.{primary_of}
+use Rattle.component_image.specs.Beside.{IsBeside}
 use Rattle.component_image.specs.Resting.{Rests}
 use Rattle.component_image.specs.Laws.Agreeing.{AgreeBeside, primaries, ShowAll-same}
 use Rattle.component_image.specs.Laws.Resting.{beside-agrees}
 use Rattle.component_image.specs.Laws.Showing.{same_lists_shown}
 use Rattle.store_steps.specs.Steps.{IsFree, HasPage}
 use Rattle.store_state.specs.declared.jobs.JobRow.{JobRow}
-use Rattle.store_state.specs.Lists.{Lists, IsLists, IsJobOf, IsPlanned, IsPlannedIf, extent_of, extents_of, open_of, placed_up_to, job_of}
+use Rattle.store_state.specs.Lists.{Lists, extent_of, extents_of, open_of, placed_up_to, job_of}
+use Rattle.store_state.specs.EveryList.{IsLists, IsPlanned, IsPlannedIf}
+use Rattle.store_state.specs.OwnJob.{IsJobOf}
 use Rattle.store_state.specs.Steps.{one_written}
 use Rattle.kept_state.specs.Keeping.{IsKept, IsUnderWay, IsUnderWayIf, IsOnPage}
 use Rattle.kept_state.specs.Reading.{IsLegible}
@@ -96,14 +101,14 @@ module _ (l : Lists) (lists : IsLists l) (owner : ℕ) (job : Job) (of : IsJobOf
   next-free pages log table s kept i inside = free-outside l.components l.ignored page i reserved (subst (λ (slots : List Slot). IsInExtents slots i) kept.components inside)
 
   -- the store can be read as before
-  module _ (table : Table) (s t : Story) (now : Option Story) (within : WritesWithin (page * 4096) 4096 s now) (told : now ≡ Some t) (legible : IsLegible table l s) where
-    pub legible-beside : IsLegible table l t
+  module _ (table : Table) (disk : List (List PrimRow)) (s t : Story) (now : Option Story) (within : WritesWithin (page * 4096) 4096 s now) (told : now ≡ Some t) (legible : IsLegible table disk l s) where
+    pub legible-beside : IsLegible table disk l t
     legible-beside =
-        legible-within table l s t (page * 4096) 4096 now lists legible within told
+        legible-within table disk l s t (page * 4096) 4096 now lists legible within told
         (λ i place. free-outside l.components l.ignored page i reserved (lent-inside l.components i place))
 
-    pub legible-written : IsLegible table (one_written l) t
-    legible-written = record { disk = legible-beside.disk; shown = legible-beside.shown; fits = legible-beside.fits }
+    pub legible-written : IsLegible table disk (one_written l) t
+    legible-written = record { shown = legible-beside.shown; fits = legible-beside.fits }
 
   -- and keeps its table
   module _ (pages : ℕ) (log : Log) (table : Table) (s t : Story) (now : Option Story) (bytes : List ℕ) (kept : IsKept pages log table l s) (within : WritesWithin (page * 4096) 4096 s now) (told : now ≡ Some t)

@@ -20,11 +20,6 @@ use Rattle.component_image.specs.Resting.{Rests}
 use Rattle.store_state.specs.declared.jobs.JobRow.{JobRow}
 use Rattle.store_state.specs.Lists.{Lists, open_of, placed_up_to, job_of}
 
--- The numbers of the lists are those of the log, whatever the device tells.
-pub record IsNumbered (log : Log) (l : Lists) : Type 0 where
-  pub start : log.start ≡ LOG_START
-  pub next : l.cut + 1 + log.records ≡ log.next_lsn
-
 -- a place of a page
 pub record IsOnPage (page i : ℕ) : Type 0 where
   pub from : page * PAGE_BYTES ≤ i

@@ -1,4 +1,6 @@
 pub mod Keeping
 pub mod Laws
+pub mod Numbered
+pub mod OnlyRead
 pub mod Reading
 pub mod Writing

@@ -1,49 +1,18 @@
 -- What readers of a store's lists rest on, also where the store was stopped: the pages of the components show lists, and with
 -- those in memory they fit the table. And what readers leave behind.
-use Rattle.std.specs.Prelude.{◌≡◌, ℕ, ◌*◌, IsTrue, List, Some, Option, Result}
-use Rattle.dev_model.specs.Moments.{LeavesOnly, ReadsWithin}
-use Rattle.dev_model.specs.Story.{Story, WhereTold, IsImageNow}
+use Rattle.std.specs.Prelude.{List, Some}
+use Rattle.dev_model.specs.Story.{Story}
 use Rattle.order_merge.specs.Entries.{Fits}
 use Rattle.order_merge.specs.Views.{lists_of}
 use Rattle.table_model.specs.Table.{Table}
-use Rattle.wal_log.specs.declared.log.Log.{Log}
-use Rattle.tree_shape.specs.Asked.{Went, reads_of}
-use Rattle.device_pages.specs.Asked.{Seen, Asked}
-use Rattle.device_pages.specs.Claims.{MadeReads}
-use Rattle.device_pages.specs.Lending.{is_lent, contents_of}
-use Rattle.page_codec.specs.declared.faults.PageFault.{PageFault}
-use Rattle.page_codec.specs.declared.pages.TheConstants.{PAGE_BYTES}
+use Rattle.device_pages.specs.Lending.{contents_of}
 use Rattle.primary_ix.specs.Components.{AreShown}
 use Rattle.primary_ix.specs.Rows.{prim_reading}
 use Rattle.primary_ix.specs.Wanted.{wanted_rows}
 use Rattle.primary_ix.specs.declared.rows.PrimRow.{PrimRow}
-use Rattle.component_image.specs.Recovered.{Recovers}
 use Rattle.store_state.specs.Lists.{Lists, extents_of, trees_of}
-use Rattle.kept_state.specs.Keeping.{IsKept}
 
-pub record IsLegible (table : Table) (l : Lists) (s : Story) : Type 0 where
-  pub disk : List (List PrimRow)
+-- the components' pages show these lists, the newest first
+pub record IsLegible (table : Table) (disk : List (List PrimRow)) (l : Lists) (s : Story) : Type 0 where
   pub shown : AreShown (contents_of (extents_of l.components) (Some s)) (trees_of l.components) disk
   pub fits : Fits prim_reading (lists_of l.active l.frozen disk) (wanted_rows table)
-
--- this range is a page of a component
-pub record IsPageIn (l : Lists) (at count : ℕ) : Type 0 where
-  pub page : ℕ
-  pub lent : IsTrue (is_lent (extents_of l.components) page)
-  pub place : at ≡ page * PAGE_BYTES
-  pub size : count ≡ PAGE_BYTES
-
--- A reader asked for these pages of the components, in one list, stopped at the first that it could not use, and did nothing
--- else. Where the device tells, the calls that succeeded are the reads of the pages that were given.
-pub record HasRead {X : Type 0} (l : Lists) (old new : Seen) (result : Result X PageFault) (pages : List ℕ) : Type 0 where
-  pub went : Went (is_lent (extents_of l.components)) (λ asked. Asked asked old new) result pages
-  pub made : WhereTold old.story (λ s. MadeReads (reads_of result pages) s new.story)
-
--- The story went on by reads of pages of the components alone. So the store is legible as it was, and where nothing had stopped
--- it nothing has; and a crash at each moment leaves what one before might have left, the table where that was kept.
-pub record IsOnlyRead (pages : ℕ) (l : Lists) (s : Story) (now : Option Story) : Type 0 where
-  pub reads : ReadsWithin (IsPageIn l) s now
-  pub images : LeavesOnly s now (IsImageNow s)
-  pub legible : (table : Table) → IsLegible table l s → WhereTold now (IsLegible table l)
-  pub kept : (log : Log) (table : Table) → IsKept pages log table l s → WhereTold now (IsKept pages log table l)
-  pub any_moment : (log : Log) (table : Table) → IsKept pages log table l s → LeavesOnly s now (Recovers pages table)

@@ -1,19 +1,25 @@
 // The pages of a flush, one after the other, and the install of the component that they make.
 ghost use Rattle.std.specs.Prelude.{◌≡◌, ◌+◌, ◌*◌, ◌<◌, ◌≤◌, ℕ, List, [], ◌∷◌, length, Some, OnErr, OnOk};
 ghost use Rattle.dev_model.specs.Counts.{HasCause};
-ghost use Rattle.dev_model.specs.Story.{WhereTold, Did, Ticks, Write};
-ghost use Rattle.dev_model.specs.Moments.{LeavesOnly, WritesWithin};
+ghost use Rattle.dev_model.specs.Story.{WhereTold, Write};
+ghost use Rattle.dev_model.specs.Doing.{Did, Ticks};
+ghost use Rattle.dev_model.specs.Moments.{LeavesOnly};
+ghost use Rattle.dev_model.specs.Writes.{WritesWithin};
 ghost use Rattle.table_model.specs.Table.{Table};
 ghost use Rattle.wal_log.specs.declared.log.Log.{Log as LogModel};
 ghost use Rattle.comp_dir.specs.Places.{slot_start};
-ghost use Rattle.comp_dir.specs.State.{install_calls};
-ghost use Rattle.build_job.specs.Jobs.{described, steps_left};
+ghost use Rattle.comp_dir.specs.Resting.{install_calls};
+ghost use Rattle.build_job.specs.Jobs.{described};
+ghost use Rattle.build_job.specs.Steps.{steps_left};
 ghost use Rattle.build_job.specs.Written.{IsPageOf};
+ghost use Rattle.primary_ix.specs.declared.rows.PrimRow.{PrimRow};
 ghost use Rattle.component_image.specs.Recovered.{Recovers};
-ghost use Rattle.store_state.specs.Lists.{IsLists, IsJobOf};
+ghost use Rattle.store_state.specs.EveryList.{IsLists};
+ghost use Rattle.store_state.specs.OwnJob.{IsJobOf};
 ghost use Rattle.store_state.specs.Steps.{installed, one_written};
 ghost use Rattle.store_state.specs.declared.jobs.JobRow.{JobRow};
-ghost use Rattle.kept_state.specs.Keeping.{IsKept, IsNumbered};
+ghost use Rattle.kept_state.specs.Keeping.{IsKept};
+ghost use Rattle.kept_state.specs.Numbered.{IsNumbered};
 ghost use Rattle.kept_state.specs.Reading.{IsLegible};
 
 use crate::laws::{jobs_have_rules, lists_have_rules};
@@ -55,7 +61,7 @@ pub fn write_job_page<D: Device>(
         LeavesOnly s (D.story device.new) (Recovers (D.pages device.old) table)) }
     ensures kept { (log : LogModel) (table : Table) → OnOk result (WhereTold (D.story device.old) (λ s. IsKept (D.pages device.old) log table state.old.0 s →
         WhereTold (D.story device.new) (IsKept (D.pages device.old) log table state.new.0))) }
-    ensures legible { (table : Table) → WhereTold (D.story device.old) (λ s. IsLegible table state.old.0 s → WhereTold (D.story device.new) (IsLegible table state.new.0)) }
+    ensures legible { (table : Table) (disk : List (List PrimRow)) → WhereTold (D.story device.old) (λ s. IsLegible table disk state.old.0 s → WhereTold (D.story device.new) (IsLegible table disk state.new.0)) }
 
     ensures same_pages { D.pages device.new ≡ D.pages device.old }
     ensures cause { HasCause (D.fault_count device.old) (D.fault_count device.new) result }
@@ -96,13 +102,15 @@ pub fn install_job<D: Device>(
     ensures sound { IsLists state.new.0 }
 
     // Each crash at each moment leaves the table, with the component or without it, and after `Ok` the store has it still. After a
-    // failure it can be read as before.
+    // failure it can be read as before, and after `Ok` with the job's rows as the newest list on the disk.
     ensures any_moment { (log : LogModel) (table : Table) → WhereTold (D.story device.old) (λ s. IsNumbered log state.old.0 → IsKept (D.pages device.old) log table state.old.0 s →
         LeavesOnly s (D.story device.new) (Recovers (D.pages device.old) table)) }
     ensures kept { (log : LogModel) (table : Table) → OnOk result (WhereTold (D.story device.old) (λ s. IsNumbered log state.old.0 → IsKept (D.pages device.old) log table state.old.0 s →
         WhereTold (D.story device.new) (IsKept (D.pages device.old) log table state.new.0))) }
     ensures numbered { (log : LogModel) → IsNumbered log state.old.0 → IsNumbered log state.new.0 }
-    ensures legible { (table : Table) → OnErr result (WhereTold (D.story device.old) (λ s. IsLegible table state.old.0 s → WhereTold (D.story device.new) (IsLegible table state.new.0))) }
+    ensures legible { (table : Table) (disk : List (List PrimRow)) → OnErr result (WhereTold (D.story device.old) (λ s. IsLegible table disk state.old.0 s → WhereTold (D.story device.new) (IsLegible table disk state.new.0))) }
+    ensures legible_installed { (log : LogModel) (table : Table) (disk : List (List PrimRow)) → OnOk result (WhereTold (D.story device.old) (λ s. IsKept (D.pages device.old) log table state.old.0 s → IsLegible table disk state.old.0 s →
+        WhereTold (D.story device.new) (IsLegible table (job.now.rows ∷ disk) state.new.0))) }
 
     ensures same_pages { D.pages device.new ≡ D.pages device.old }
     ensures cause { HasCause (D.fault_count device.old) (D.fault_count device.new) result }

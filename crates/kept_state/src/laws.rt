@@ -1,16 +1,20 @@
 // Laws of a store's lists that are kept on its device. Each is the contract of a function that does nothing.
-ghost use Rattle.std.specs.Prelude.{◌≡◌, ℕ, Some};
+ghost use Rattle.std.specs.Prelude.{◌≡◌, ℕ, List, Some};
 ghost use Rattle.dev_model.specs.Story.{Story};
 ghost use Rattle.table_model.specs.Table.{Table};
 ghost use Rattle.wal_log.specs.declared.log.Log.{Log};
 ghost use Rattle.comp_dir.specs.Rules.{IsSound};
 ghost use Rattle.comp_dir.specs.Slots.{slot_bytes, slot_of};
-ghost use Rattle.build_job.specs.Jobs.{IsJob, described, steps_left};
-ghost use Rattle.component_image.specs.Resting.{MayStand};
+ghost use Rattle.build_job.specs.Jobs.{described};
+ghost use Rattle.build_job.specs.Steps.{IsJob, steps_left};
+ghost use Rattle.primary_ix.specs.declared.rows.PrimRow.{PrimRow};
+ghost use Rattle.component_image.specs.Standing.{MayStand};
 ghost use Rattle.store_state.specs.declared.jobs.JobRow.{JobRow};
-ghost use Rattle.store_state.specs.Lists.{Lists, IsLists, job_of};
+ghost use Rattle.store_state.specs.Lists.{Lists, job_of};
+ghost use Rattle.store_state.specs.EveryList.{IsLists};
 ghost use Rattle.store_state.specs.Steps.{begun};
-ghost use Rattle.kept_state.specs.Keeping.{IsKept, IsNumbered};
+ghost use Rattle.kept_state.specs.Keeping.{IsKept};
+ghost use Rattle.kept_state.specs.Numbered.{IsNumbered};
 ghost use Rattle.kept_state.specs.Reading.{IsLegible};
 
 use build_job::BuildJob;
@@ -33,7 +37,7 @@ pub fn jobs_have_rules(job: &BuildJob)
 /// A law: where a job is begun of which no page is written, the store is kept as it was, and can be read as before.
 pub fn begun_job_is_kept()
     ensures kept { (pages : ℕ) (log : Log) (table : Table) (l : Lists) (s : Story) (row : JobRow) → IsKept pages log table l s → row.written ≡ 0 → IsKept pages log table (begun row l) s }
-    ensures legible { (table : Table) (l : Lists) (s : Story) (row : JobRow) → IsLegible table l s → IsLegible table (begun row l) s }
+    ensures legible { (table : Table) (disk : List (List PrimRow)) (l : Lists) (s : Story) (row : JobRow) → IsLegible table disk l s → IsLegible table disk (begun row l) s }
 {}
 
 /// A law: what is on a device is kept of one table alone.

@@ -16,8 +16,3 @@ pub use legible::{
 };
 pub use reading::{read_row, read_rows};
 pub use writing::{freeze, log_write};
-
-#[cfg(test)]
-mod reading_tests;
-#[cfg(test)]
-mod writing_tests;

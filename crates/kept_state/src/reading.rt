@@ -7,17 +7,22 @@ ghost use Rattle.page_codec.specs.declared.faults.PageFault.TheVariants.{Failed,
 ghost use Rattle.tree_shape.specs.Asked.{GoesBy};
 ghost use Rattle.device_pages.specs.Asked.{seen};
 ghost use Rattle.device_pages.specs.Lending.{contents_of};
-ghost use Rattle.order_merge.specs.Entries.{Ascends, newest_at};
+ghost use Rattle.order_merge.specs.Entries.{newest_at};
+ghost use Rattle.order_merge.specs.Ascending.{Ascends};
 ghost use Rattle.order_merge.specs.Views.{lists_of};
 ghost use Rattle.table_model.specs.Table.{Table};
 ghost use Rattle.primary_ix.specs.Rows.{prim_reading};
-ghost use Rattle.primary_ix.specs.Components.{AreShown, AreRoots, IsDamagedIn, IsTestedIn};
+ghost use Rattle.primary_ix.specs.Components.{AreShown, AreRoots};
+ghost use Rattle.primary_ix.specs.Pages.{IsDamagedIn, IsTestedIn};
 ghost use Rattle.primary_ix.specs.Lookups.{in_memory, view_pages};
 ghost use Rattle.primary_ix.specs.Scans.{scan_pages};
-ghost use Rattle.primary_ix.specs.Wanted.{record_in, record_of, table_row, table_rows};
+ghost use Rattle.primary_ix.specs.Wanted.{table_row};
+ghost use Rattle.primary_ix.specs.Records.{record_in, record_of, table_rows};
 ghost use Rattle.primary_ix.specs.declared.rows.PrimRow.{PrimRow as PrimRowModel};
-ghost use Rattle.store_state.specs.Lists.{IsLists, extents_of, trees_of};
-ghost use Rattle.kept_state.specs.Reading.{IsLegible, HasRead, IsOnlyRead};
+ghost use Rattle.store_state.specs.Lists.{extents_of, trees_of};
+ghost use Rattle.store_state.specs.EveryList.{IsLists};
+ghost use Rattle.kept_state.specs.Reading.{IsLegible};
+ghost use Rattle.kept_state.specs.OnlyRead.{HasRead, IsOnlyRead};
 
 use dev_model::Device;
 use device_pages::DevicePages;
@@ -80,7 +85,7 @@ pub fn read_row<D: Device>(
 ) -> Result<Option<Row>, PageFault>
     requires on_device { state.now.0.space.pages ≤ D.pages device.old }
 
-    ensures row { (table : Table) → WhereTold (D.story device.old) (λ s. IsLegible table state.now.0 s
+    ensures row { (table : Table) (disk : List (List PrimRowModel)) → WhereTold (D.story device.old) (λ s. IsLegible table disk state.now.0 s
         → MatchResult result (λ row. row ≡ table_row table key) (λ fault. fault ≡ Failed)) }
     ensures memory { IfSome (in_memory state.now.0.active state.now.0.frozen key) (λ row. (result ≡ Ok (record_in row)) × (device.new ≡ device.old)) }
     ensures failed { IfErr result (λ fault. fault ≡ Failed → Rose (D.fault_count device.old) (D.fault_count device.new)) }
@@ -117,7 +122,7 @@ pub fn read_rows<D: Device>(
 ) -> Result<Vec<PrimRow>, PageFault>
     requires on_device { state.now.0.space.pages ≤ D.pages device.old }
 
-    ensures rows { (table : Table) → WhereTold (D.story device.old) (λ s. IsLegible table state.now.0 s
+    ensures rows { (table : Table) (disk : List (List PrimRowModel)) → WhereTold (D.story device.old) (λ s. IsLegible table disk state.now.0 s
         → MatchResult result (λ rows. rows.items ≡ table_rows table) (λ fault. (fault ≡ Failed) ⊎ (fault ≡ OutOfMemory))) }
     ensures ascends { IfOk result (λ rows. Ascends prim_reading rows.items) }
     ensures failed { IfErr result (λ fault. fault ≡ Failed → Rose (D.fault_count device.old) (D.fault_count device.new)) }

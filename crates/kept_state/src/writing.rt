@@ -1,20 +1,26 @@
 // Writes and freezes: each goes to the log first, and to the lists once it stands there.
-ghost use Rattle.std.specs.Prelude.{◌≡◌, ◌+◌, ◌-◌, ◌<◌, ◌≤◌, IfOk, OnErr, OnOk, ℕ, None, false, true, length, get_or, is_some, set};
+ghost use Rattle.std.specs.Prelude.{◌≡◌, ◌+◌, ◌-◌, ◌<◌, ◌≤◌, IfOk, OnErr, OnOk, ℕ, List, None, false, true, length, get_or, is_some, set};
 ghost use Rattle.dev_model.specs.Counts.{HasCause};
-ghost use Rattle.dev_model.specs.Story.{WhereTold, Did, Ticks};
-ghost use Rattle.dev_model.specs.Moments.{LeavesOnly, WritesWithin};
+ghost use Rattle.dev_model.specs.Story.{WhereTold};
+ghost use Rattle.dev_model.specs.Doing.{Did, Ticks};
+ghost use Rattle.dev_model.specs.Moments.{LeavesOnly};
+ghost use Rattle.dev_model.specs.Writes.{WritesWithin};
 ghost use Rattle.table_model.specs.Table.{Table};
 ghost use Rattle.table_model.specs.Answers.{after_write};
 ghost use Rattle.wal_log.specs.Records.{HasOld, record_bytes};
-ghost use Rattle.wal_log.specs.State.{IsCounted, append_calls, turn_calls, following, close_count};
+ghost use Rattle.wal_log.specs.State.{turn_calls, following};
+ghost use Rattle.wal_log.specs.Counted.{IsCounted};
+ghost use Rattle.wal_log.specs.Changes.{append_calls, close_count};
 ghost use Rattle.image_model.specs.Recovered.{write_of};
 ghost use Rattle.primary_ix.specs.Wanted.{written_row};
+ghost use Rattle.primary_ix.specs.declared.rows.PrimRow.{PrimRow};
 ghost use Rattle.component_image.specs.Recovered.{Recovers};
-ghost use Rattle.component_image.specs.Resting.{RecoversEither};
+ghost use Rattle.component_image.specs.Standing.{RecoversEither};
 ghost use Rattle.component_image.specs.Told.{SaysOld};
-ghost use Rattle.store_state.specs.Lists.{IsLists};
+ghost use Rattle.store_state.specs.EveryList.{IsLists};
 ghost use Rattle.store_state.specs.Steps.{added, frozen_at};
-ghost use Rattle.kept_state.specs.Keeping.{IsNumbered, IsKept};
+ghost use Rattle.kept_state.specs.Keeping.{IsKept};
+ghost use Rattle.kept_state.specs.Numbered.{IsNumbered};
 ghost use Rattle.kept_state.specs.Reading.{IsLegible};
 ghost use Rattle.kept_state.specs.Writing.{next_record};
 
@@ -67,7 +73,7 @@ pub fn log_write<D: Device>(
         WhereTold (D.story device.new) (IsKept (D.pages device.old) log.new (after_write table (write_of op.now)) state.new.0))) }
 
     // By the lists of before, readers find the table of before, also after a failure.
-    ensures legible { (table : Table) → WhereTold (D.story device.old) (λ s. IsLegible table state.old.0 s → WhereTold (D.story device.new) (IsLegible table state.old.0)) }
+    ensures legible { (table : Table) (disk : List (List PrimRow)) → WhereTold (D.story device.old) (λ s. IsLegible table disk state.old.0 s → WhereTold (D.story device.new) (IsLegible table disk state.old.0)) }
 
     ensures same_pages { D.pages device.new ≡ D.pages device.old }
     ensures cause { HasCause (D.fault_count device.old) (D.fault_count device.new) result }
@@ -116,12 +122,12 @@ pub fn freeze<D: Device>(device: &mut D, log: &mut Log, state: &mut State) -> Re
     ensures counted { IsCounted log.new }
     ensures sound { IsLists state.new.0 }
 
-    // Each crash at each moment leaves the table, and after `Ok` the store has it still. After a failure it can be read as before.
+    // Each crash at each moment leaves the table, and after `Ok` the store has it still. In any case it can be read as before.
     ensures any_moment { (table : Table) → WhereTold (D.story device.old) (λ s. IsKept (D.pages device.old) log.old table state.old.0 s →
         LeavesOnly s (D.story device.new) (Recovers (D.pages device.old) table)) }
     ensures kept { (table : Table) → OnOk result (WhereTold (D.story device.old) (λ s. IsKept (D.pages device.old) log.old table state.old.0 s →
         WhereTold (D.story device.new) (IsKept (D.pages device.old) log.new table state.new.0))) }
-    ensures legible { (table : Table) → OnErr result (WhereTold (D.story device.old) (λ s. IsLegible table state.old.0 s → WhereTold (D.story device.new) (IsLegible table state.new.0))) }
+    ensures legible { (table : Table) (disk : List (List PrimRow)) → WhereTold (D.story device.old) (λ s. IsLegible table disk state.old.0 s → WhereTold (D.story device.new) (IsLegible table disk state.new.0)) }
 
     ensures same_pages { D.pages device.new ≡ D.pages device.old }
     ensures cause { HasCause (D.fault_count device.old) (D.fault_count device.new) result }

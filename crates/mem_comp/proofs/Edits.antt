@@ -1,8 +1,10 @@
 -- What an edit at the place that a search found does to the list.
 use Rattle.std.proofs.Common.{◌≡◌, ℕ, List, set, ap, sym, ◌∙◌, subst}
 use Rattle.std.specs.List.{insert, remove}
-use Rattle.order_merge.specs.Entries.{Reading, IsKeyOrder, Ascends}
-use Rattle.order_merge.specs.Adding.{with_entry, without_key}
+use Rattle.order_merge.specs.Entries.{Reading}
+use Rattle.order_merge.specs.Ascending.{IsKeyOrder, Ascends}
+use Rattle.order_merge.specs.Adding.{with_entry}
+use Rattle.order_merge.specs.Added.{without_key}
 use Rattle.mem_comp.specs.Search.{IsPlaceOf, IsGapFor}
 use Rattle.mem_comp.proofs.Searched.{with_entry-place, with_entry-gap, without_key-place, without_key-gap}
 

@@ -7,8 +7,10 @@ use Rattle.std.specs.Ordering.{eq_by_cmp, is_eq, ordering_index, ordering_revers
 use Rattle.std.specs.Cmp.{alike_right}
 use Rattle.std.specs.declared.cmp.Ordering.{Ordering}
 use Rattle.std.specs.declared.cmp.Ordering.TheVariants.{Less, Equal, Greater}
-use Rattle.order_merge.specs.Entries.{Reading, IsKeyOrder, Ascends, entry_at}
-use Rattle.order_merge.specs.Adding.{with_entry, without_key}
+use Rattle.order_merge.specs.Entries.{Reading, entry_at}
+use Rattle.order_merge.specs.Ascending.{IsKeyOrder, Ascends}
+use Rattle.order_merge.specs.Adding.{with_entry}
+use Rattle.order_merge.specs.Added.{without_key}
 use Rattle.order_merge.specs.laws.Adding.{Ascends-first, Ascends-others}
 use Rattle.mem_comp.specs.Search.{IsPlaceOf, IsGapFor}
 

@@ -2,7 +2,8 @@
 
 ghost use Rattle.std.specs.Prelude.{◌≡◌, ℕ, ◌+◌, ◌≤◌, [], IsOk, IfOk, OnOk};
 ghost use Rattle.order_merge.specs.Entries.{Reading, entry_at};
-ghost use Rattle.order_merge.specs.Adding.{with_entry, without_key};
+ghost use Rattle.order_merge.specs.Adding.{with_entry};
+ghost use Rattle.order_merge.specs.Added.{without_key};
 
 use crate::search::{entry_in, search};
 use crate::view::MemView;
@@ -20,7 +21,7 @@ pub struct MemComp<E: Entry> {
 
 impl<E: Entry> Model for MemComp<E> {
     ghost use Rattle.std.specs.Prelude.{ℕ, ◌-◌, List, vec_len, vec_capacity};
-    ghost use Rattle.order_merge.specs.Entries.{Ascends};
+    ghost use Rattle.order_merge.specs.Ascending.{Ascends};
 
     ghost Value = { List E × ℕ };
 

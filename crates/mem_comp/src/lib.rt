@@ -3,8 +3,6 @@
 
 mod component;
 mod search;
-#[cfg(test)]
-mod tests;
 mod view;
 
 pub use component::MemComp;

@@ -1,7 +1,8 @@
 //! The search of an ascending list.
 
 ghost use Rattle.std.specs.Prelude.{◌≡◌, MatchResult};
-ghost use Rattle.order_merge.specs.Entries.{Reading, Ascends, entry_at};
+ghost use Rattle.order_merge.specs.Entries.{Reading, entry_at};
+ghost use Rattle.order_merge.specs.Ascending.{Ascends};
 ghost use Rattle.mem_comp.specs.Search.{IsPlaceOf, IsGapFor};
 
 use order_merge::Entry;

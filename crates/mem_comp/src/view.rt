@@ -1,7 +1,8 @@
 //! A view of a component, which stays as it is.
 
 ghost use Rattle.std.specs.Prelude.{◌≡◌, ◌++◌, length, OnOk, OnErr};
-ghost use Rattle.order_merge.specs.Entries.{Reading, Ascends, entry_at};
+ghost use Rattle.order_merge.specs.Entries.{Reading, entry_at};
+ghost use Rattle.order_merge.specs.Ascending.{Ascends};
 
 use crate::search::entry_in;
 use order_merge::Entry;
@@ -16,7 +17,7 @@ pub struct MemView<E: Entry> {
 
 impl<E: Entry> Model for MemView<E> {
     ghost use Rattle.std.specs.Prelude.{List};
-    ghost use Rattle.order_merge.specs.Entries.{Ascends};
+    ghost use Rattle.order_merge.specs.Ascending.{Ascends};
 
     ghost Value = { List E };
 

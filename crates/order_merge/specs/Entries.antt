@@ -1,26 +1,15 @@
 -- Which entries of an index live, and when its lists fit a table.
 -- A list's entries ascend by key. Of several lists the newest stands first, and its entry of a key hides the older ones.
-use Rattle.std.specs.Prelude.{◌≡◌, Bool, List, [], ◌∷◌, Option, Some, None, AllPairs, if◌then◌else◌}
+use Rattle.std.specs.Prelude.{◌≡◌, Bool, List, [], ◌∷◌, Option, Some, None, if◌then◌else◌}
 use Rattle.std.specs.Option.{option_or}
 use Rattle.std.specs.Ordering.{eq_by_cmp}
-use Rattle.std.specs.Cmp.{IsTotalOrder}
 use Rattle.std.specs.declared.cmp.Ordering.{Ordering}
-use Rattle.std.specs.declared.cmp.Ordering.TheVariants.{Less, Equal}
 
 -- how the entries of an index are read
 pub record Reading (E K : Type 0) : Type 0 where
   pub key_of : E → K
   pub is_anti : E → Bool
   pub order : K → K → Ordering
-
--- the order is total, and keys that are equal by it are the same
-pub record IsKeyOrder {K : Type 0} (order : K → K → Ordering) : Type 0 where
-  pub total : IsTotalOrder order
-  pub same : (a b : K) → order a b ≡ Equal → a ≡ b
-
--- the entries ascend strictly by key
-abbrev pub Ascends : {E K : Type 0} → Reading E K → List E → Type 0
-Ascends r es = AllPairs (λ d e. r.order (r.key_of d) (r.key_of e) ≡ Less) es
 
 -- the first entry of a key in one list
 unfoldable pub entry_at : {E K : Type 0} → Reading E K → List E → K → Option E
@@ -44,12 +33,3 @@ living_at r lists k = unless_anti r (newest_at r lists k)
 -- exactly the wanted entries live
 abbrev pub Fits : {E K : Type 0} → Reading E K → List (List E) → (K → Option E) → Type 0
 Fits {K = K} r lists wanted = (k : K) → living_at r lists k ≡ wanted k
-
--- the entry, unless it is anti and anti entries are dropped
-abbrev pub kept : {E K : Type 0} → Reading E K → (drop_anti : Bool) → Option E → Option E
-kept r drop_anti found = if drop_anti then unless_anti r found else found
-
--- one ascending list says of each key what the lists said
-abbrev pub IsMergeOf : {E K : Type 0} → Reading E K → List (List E) → (drop_anti : Bool) → List E → Type 0
-IsMergeOf {K = K} r lists drop_anti merged =
-    Ascends r merged × ((k : K) → entry_at r merged k ≡ kept r drop_anti (newest_at r lists k))

@@ -1,7 +1,8 @@
 //! What a list holds.
 
 ghost use Rattle.std.specs.Prelude.{◌≡◌};
-ghost use Rattle.order_merge.specs.Entries.{Reading, IsKeyOrder};
+ghost use Rattle.order_merge.specs.Entries.{Reading};
+ghost use Rattle.order_merge.specs.Ascending.{IsKeyOrder};
 
 use std::cmp::Ordering;
 

@@ -1,8 +1,11 @@
 //! Laws of lists that fit a table. Each is the contract of a function that does nothing.
 
 ghost use Rattle.std.specs.Prelude.{◌≡◌, ◌≢◌, ℕ, List, [], ◌∷◌, ◌++◌, Option, Some, None, true, false, is_some};
-ghost use Rattle.order_merge.specs.Entries.{Reading, IsKeyOrder, Fits, IsMergeOf};
-ghost use Rattle.order_merge.specs.Adding.{with_entry, with_entries, wanted_with};
+ghost use Rattle.order_merge.specs.Entries.{Reading, Fits};
+ghost use Rattle.order_merge.specs.Ascending.{IsKeyOrder};
+ghost use Rattle.order_merge.specs.Merged.{IsMergeOf};
+ghost use Rattle.order_merge.specs.Adding.{with_entry};
+ghost use Rattle.order_merge.specs.Added.{with_entries, wanted_with};
 ghost use Rattle.order_merge.specs.Views.{lists_of};
 ghost use Rattle.order_merge.specs.DeletedKeys.{KeyedList, FitsDeleted, IsRewritten, wanted_at, IsMergeOfKeyed};
 ghost use Rattle.std.specs.declared.cmp.Ordering.{Ordering};

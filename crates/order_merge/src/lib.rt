@@ -7,8 +7,6 @@ mod merge;
 mod order;
 mod policy;
 mod rules;
-#[cfg(test)]
-mod tests;
 
 pub use entry::Entry;
 pub use laws::{

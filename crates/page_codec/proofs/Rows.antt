@@ -3,7 +3,9 @@ use Rattle.std.proofs.Common.{◌≡◌, ℕ, zero, suc, ◌+◌, ◌-◌, ◌*�
 use Rattle.std.proofs.lemmas.List.{take_at, drop_at, drop-replicate, drop-take, drop-append-le, drop-set-lt, get_or-set_same, get_or-set_other, get_or_append_left, get_or-take, length-set, length-take-le}
 use Rattle.std.proofs.Math.Seq.{take-add}
 use Rattle.std.proofs.Math.Nat.{mul-le-mul_left}
-use Rattle.page_codec.specs.Page.{row_width, most_rows, kind_of, row_count, rows_in, rows_on, joined, page_of, with_row, AllOfWidth}
+use Rattle.page_codec.specs.Page.{row_width, most_rows, kind_of, row_count, rows_in, rows_on}
+use Rattle.page_codec.specs.Written.{joined, page_of}
+use Rattle.page_codec.specs.Adding.{with_row, AllOfWidth}
 use Rattle.page_codec.specs.Laws.{length-joined, row_count-page_of}
 
 -- room for one row more

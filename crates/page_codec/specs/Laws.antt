@@ -1,7 +1,9 @@
 -- No public contract needs this file: laws of pages as they are written, for the crates above.
 use Rattle.std.proofs.Common.{◌≡◌, ℕ, zero, suc, ◌-◌, ◌*◌, ◌/◌, ◌%◌, ◌<◌, ◌≤◌, List, [], ◌∷◌, ◌++◌, length, replicate, get_or, arith, refl, ◌∙◌, ap, append_assoc, length-append}
 use Rattle.std.proofs.lemmas.List.{take_at, drop_at}
-use Rattle.page_codec.specs.Page.{row_width, most_rows, row_count, rows_in, rows_on, joined, page_of, AllOfWidth, ShowsRows}
+use Rattle.page_codec.specs.Page.{row_width, most_rows, row_count, rows_in, rows_on, ShowsRows}
+use Rattle.page_codec.specs.Written.{joined, page_of}
+use Rattle.page_codec.specs.Adding.{AllOfWidth}
 
 pub length-joined : (width : ℕ) (rows : List (List ℕ)) → AllOfWidth width rows → length (joined rows) ≡ length rows * width
 unfolding joined

@@ -1,2 +1,4 @@
-pub mod Page
+pub mod Adding
 pub mod Laws
+pub mod Page
+pub mod Written

@@ -1,15 +1,12 @@
 -- A page is 4,096 bytes: a header of 8 (kind, level, the number of rows as two bytes, four bytes of 0), and the rows
 -- without gaps. What stands past the last row is 0 when written, and is not looked at.
-use Rattle.std.specs.Prelude.{◌≡◌, ℕ, zero, suc, ◌+◌, ◌-◌, ◌*◌, ◌/◌, ◌%◌, ◌<◌, ◌≤◌, List, [], ◌∷◌, ◌++◌, length, take, drop, replicate, slice_index, slice_set}
+use Rattle.std.specs.Prelude.{◌≡◌, ℕ, zero, suc, ◌+◌, ◌-◌, ◌*◌, ◌/◌, ◌<◌, ◌≤◌, List, [], ◌∷◌, take, drop, slice_index}
 use Rattle.page_codec.specs.declared.kinds.TheConstants.{WIDTHS}
 use Rattle.page_codec.specs.declared.pages.TheConstants.{PAGE_BYTES, HEADER_BYTES, KIND_AT, LEVEL_AT, COUNT_AT, RESERVED_AT}
 
 -- how many bytes a row of a kind of page takes, 0 where no page has that kind
 abbrev pub row_width : ℕ → ℕ
 row_width kind = slice_index WIDTHS kind
-
-abbrev pub IsKind : ℕ → Type 0
-IsKind kind = 0 < row_width kind
 
 -- how many rows a page of a kind has at most
 abbrev pub most_rows : ℕ → ℕ
@@ -45,27 +42,3 @@ pub record IsPage (kind level : ℕ) (bytes : List ℕ) : Type 0 where
 pub record ShowsRows (kind level : ℕ) (rows : List (List ℕ)) (bytes : List ℕ) : Type 0 where
   pub page : IsPage kind level bytes
   pub all : rows_on bytes ≡ rows
-
--- all rows, without gaps
-unfoldable pub joined : List (List ℕ) → List ℕ
-joined [] = []
-joined (row ∷ rows) = row ++ joined rows
-
--- the bytes of a page with these rows and no others, as it is written
-unfoldable pub page_of : (kind level : ℕ) → List (List ℕ) → List ℕ
-page_of kind level rows =
-    let count = length rows in
-    kind ∷ level ∷ count / 256 ∷ count % 256 ∷ 0 ∷ 0 ∷ 0 ∷ 0 ∷ [] ++ joined rows
-    ++ replicate (PAGE_BYTES - HEADER_BYTES - length (joined rows)) 0
-
--- each row has that many bytes
-abbrev pub AllOfWidth : ℕ → List (List ℕ) → Type 0
-AllOfWidth width [] = Unit {0}
-AllOfWidth width (row ∷ rows) = (length row ≡ width) × AllOfWidth width rows
-
--- the page with one more row: its count rises, the row stands behind the others, and all else stays
-unfoldable pub with_row : List ℕ → List ℕ → List ℕ
-with_row bytes row =
-    let count = row_count bytes in
-    let at = HEADER_BYTES + count * length row in
-    slice_set (slice_set (take at bytes ++ row ++ drop (at + length row) bytes) COUNT_AT ((count + 1) / 256)) (COUNT_AT + 1) ((count + 1) % 256)

@@ -1,7 +1,8 @@
 //! The kinds of pages and the widths of their rows: one table, which another format of rows changes here alone.
 
 ghost use Rattle.std.specs.Prelude.{◌≡◌, ℕ, ◌<◌, ◌↔◌, IsTrue};
-ghost use Rattle.page_codec.specs.Page.{row_width, IsKind};
+ghost use Rattle.page_codec.specs.Page.{row_width};
+ghost use Rattle.page_codec.specs.Adding.{IsKind};
 
 /// A row of the primary: key 8, anti 1, length of the note 1, x 2, y 2, note 64.
 pub const PRIMARY_LEAF: u8 = 1;

@@ -4,8 +4,6 @@
 mod faults;
 mod kinds;
 mod pages;
-#[cfg(test)]
-mod tests;
 
 pub use faults::PageFault;
 pub use kinds::{

@@ -1,7 +1,9 @@
 //! A page as bytes. Nothing here copies a page or allocates.
 
 ghost use Rattle.std.specs.Prelude.{◌≡◌, ℕ, ◌+◌, ◌-◌, ◌*◌, ◌<◌, ◌≤◌, List, [], ◌∷◌, ◌++◌, length, slice_index, slice_index_or, OkIff, IsTrue, ◌↔◌};
-ghost use Rattle.page_codec.specs.Page.{row_width, most_rows, kind_of, row_count, rows_on, page_of, IsKind, IsPage, AllOfWidth, with_row};
+ghost use Rattle.page_codec.specs.Page.{row_width, most_rows, kind_of, row_count, rows_on, IsPage};
+ghost use Rattle.page_codec.specs.Written.{page_of};
+ghost use Rattle.page_codec.specs.Adding.{IsKind, AllOfWidth, with_row};
 
 use crate::kinds::width_of;
 use std::error::Error;

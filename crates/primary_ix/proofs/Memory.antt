@@ -9,7 +9,8 @@ use Rattle.geo_base.specs.declared.points.Row.{Row}
 use Rattle.table_model.specs.Table.{Table}
 use Rattle.primary_ix.specs.declared.component.PrimComp.{PrimComp}
 use Rattle.primary_ix.specs.Lookups.{in_memory, lookup_pages, view_pages}
-use Rattle.primary_ix.specs.Wanted.{record_in, record_of, with_matter, matter_row, table_row, wanted_rows}
+use Rattle.primary_ix.specs.Wanted.{matter_row, table_row, wanted_rows}
+use Rattle.primary_ix.specs.Records.{record_in, record_of, with_matter}
 
 alone : (found : Option PrimRow) → option_or found None ≡ found
 alone None = refl

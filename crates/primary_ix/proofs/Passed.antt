@@ -8,7 +8,7 @@ use Rattle.primary_ix.specs.declared.component.PrimComp.{PrimComp}
 use Rattle.primary_ix.specs.declared.rows.PrimRow.{PrimRow}
 use Rattle.primary_ix.specs.Rows.{prim_layout, prim_reading}
 use Rattle.btree_image.specs.Damage.{IsTested}
-use Rattle.primary_ix.specs.Components.{IsTestedIn}
+use Rattle.primary_ix.specs.Pages.{IsTestedIn}
 use Rattle.primary_ix.specs.Lookups.{lookup_pages}
 
 pub same_default : {X : Type 0} (xs : List X) (i : ℕ) (d e : X) → i < length xs → get_or xs i d ≡ get_or xs i e

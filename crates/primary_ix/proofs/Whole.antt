@@ -12,8 +12,9 @@ use Rattle.std.specs.Cmp.{nat_cmp_is}
 use Rattle.std.specs.declared.cmp.Ordering.TheVariants.{Less, Equal, Greater}
 use Rattle.std.proofs.lemmas.Cmp.{ranked}
 use Rattle.btree_image.specs.Rows.{IsStored}
-use Rattle.btree_image.specs.Visited.{AreRanges, rows_met, is_inside, visited_pages}
-use Rattle.order_merge.specs.Entries.{Ascends}
+use Rattle.btree_image.specs.Visited.{visited_pages}
+use Rattle.btree_image.specs.Given.{AreRanges, rows_met, is_inside}
+use Rattle.order_merge.specs.Ascending.{Ascends}
 use Rattle.primary_ix.specs.declared.component.PrimComp.{PrimComp}
 use Rattle.primary_ix.specs.declared.rows.PrimRow.{PrimRow}
 use Rattle.primary_ix.specs.Rows.{prim_layout, prim_reading}

@@ -4,10 +4,10 @@ use Rattle.std.proofs.Common.{arith, refl, sym}
 use Rattle.std.specs.Cmp.{nat_cmp_total}
 use Rattle.std.specs.declared.cmp.Ordering.TheVariants.{Equal}
 use Rattle.std.proofs.lemmas.Cmp.{ranked}
-use Rattle.btree_image.specs.Rows.{AreKinds}
+use Rattle.btree_image.specs.Kinds.{AreKinds}
 use Rattle.page_codec.specs.declared.kinds.TheConstants.{PRIMARY_LEAF, PRIMARY_INNER}
 use Rattle.primary_ix.specs.declared.bytes.TheConstants.{KEY_BYTES}
-use Rattle.order_merge.specs.Entries.{IsKeyOrder}
+use Rattle.order_merge.specs.Ascending.{IsKeyOrder}
 use Rattle.order_merge.specs.laws.Numbers.{nat_cmp-IsKeyOrder}
 use Rattle.primary_ix.specs.Rows.{prim_layout, prim_reading}
 

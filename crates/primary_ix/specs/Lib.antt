@@ -2,7 +2,8 @@ pub mod Components
 pub mod Kinds
 pub mod Laws
 pub mod Lookups
+pub mod Pages
+pub mod Records
 pub mod Rows
 pub mod Scans
-pub mod TestPages
 pub mod Wanted

@@ -1,10 +1,12 @@
 //! The components of the primary on disk, and how the list of one is made and laid out.
 
 ghost use Rattle.std.specs.Prelude.{◌≡◌, ℕ, ◌+◌, ◌^◌, ◌<◌, ◌≤◌, map, length, All, IfOk};
-ghost use Rattle.order_merge.specs.Entries.{Ascends, IsMergeOf};
+ghost use Rattle.order_merge.specs.Ascending.{Ascends};
+ghost use Rattle.order_merge.specs.Merged.{IsMergeOf};
 ghost use Rattle.page_codec.specs.Page.{ShowsRows};
 ghost use Rattle.tree_shape.specs.Shape.{level_start, IsRoot, IsPlace};
-ghost use Rattle.btree_image.specs.Image.{shape_of, level_rows, level_kind, level_page};
+ghost use Rattle.btree_image.specs.Image.{shape_of, level_rows, level_kind};
+ghost use Rattle.btree_image.specs.Pages.{level_page};
 ghost use Rattle.primary_ix.specs.Rows.{prim_reading, prim_layout};
 
 use crate::rows::PrimRow;

@@ -2,18 +2,20 @@
 
 ghost use Rattle.std.specs.Prelude.{◌≡◌, ℕ, [], ◌∷◌, ◌++◌, ◌↔◌, List, Some, None, true, false};
 ghost use Rattle.std.specs.FinMap.{empty};
-ghost use Rattle.order_merge.specs.Entries as entries;
-ghost use Rattle.order_merge.specs.Entries.{Fits, IsMergeOf, entry_at};
+ghost use Rattle.order_merge.specs.Ascending as entries;
+ghost use Rattle.order_merge.specs.Entries.{Fits, entry_at};
+ghost use Rattle.order_merge.specs.Merged.{IsMergeOf};
 ghost use Rattle.order_merge.specs.Adding.{with_entry};
 ghost use Rattle.order_merge.specs.Views.{lists_of};
 ghost use Rattle.btree_image.specs.Rows as rows;
-ghost use Rattle.btree_image.specs.Rows.{row_with_key};
+ghost use Rattle.btree_image.specs.Given.{row_with_key};
 ghost use Rattle.table_model.specs.Table.{Table};
 ghost use Rattle.table_model.specs.Commands.{Write};
 ghost use Rattle.table_model.specs.Answers.{after_write};
 ghost use Rattle.primary_ix.specs.declared.rows.PrimRow.{PrimRow};
 ghost use Rattle.primary_ix.specs.Rows.{prim_reading, prim_layout};
-ghost use Rattle.primary_ix.specs.Wanted.{wanted_rows, table_rows, written_row};
+ghost use Rattle.primary_ix.specs.Wanted.{wanted_rows, written_row};
+ghost use Rattle.primary_ix.specs.Records.{table_rows};
 
 /// A law: a list of rows is the same to the lists in memory and to the trees on pages: it ascends for both or for
 /// neither, and both find the same row of a key.

@@ -7,8 +7,6 @@ mod laws;
 mod living;
 mod lookups;
 mod rows;
-#[cfg(test)]
-mod tests;
 
 pub use component::{PrimComp, PrimView, image_page, merged, need};
 pub use laws::{lists_and_trees_agree, placed_rows_fit, table_rows_fit, written_rows_fit};

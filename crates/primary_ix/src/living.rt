@@ -7,15 +7,21 @@ ghost use Rattle.page_codec.specs.declared.faults.PageFault.TheVariants.{Failed,
 ghost use Rattle.tree_shape.specs.Shape.{IsRoot};
 ghost use Rattle.tree_shape.specs.Asked.{Went, GoesBy};
 ghost use Rattle.btree_image.specs.Damage.{IsDamaged, IsTested};
-ghost use Rattle.btree_image.specs.Image.{shape_of, IsShown, AreLent};
+ghost use Rattle.btree_image.specs.Image.{shape_of};
+ghost use Rattle.btree_image.specs.Pages.{IsShown};
+ghost use Rattle.btree_image.specs.Lent.{AreLent};
 ghost use Rattle.btree_image.specs.Visited.{visited_pages};
-ghost use Rattle.order_merge.specs.Entries.{Ascends, Fits, IsMergeOf};
+ghost use Rattle.order_merge.specs.Entries.{Fits};
+ghost use Rattle.order_merge.specs.Ascending.{Ascends};
+ghost use Rattle.order_merge.specs.Merged.{IsMergeOf};
 ghost use Rattle.order_merge.specs.Views.{lists_of};
 ghost use Rattle.table_model.specs.Table.{Table};
 ghost use Rattle.primary_ix.specs.Rows.{prim_layout, prim_reading};
-ghost use Rattle.primary_ix.specs.Components.{AreAllLent, AreShown, AreRoots, IsDamagedIn, IsTestedIn};
+ghost use Rattle.primary_ix.specs.Components.{AreShown, AreRoots};
+ghost use Rattle.primary_ix.specs.Pages.{AreAllLent, IsDamagedIn, IsTestedIn};
 ghost use Rattle.primary_ix.specs.Scans.{all_keys, scan_pages};
-ghost use Rattle.primary_ix.specs.Wanted.{wanted_rows, table_rows};
+ghost use Rattle.primary_ix.specs.Wanted.{wanted_rows};
+ghost use Rattle.primary_ix.specs.Records.{table_rows};
 
 use crate::component::{PrimComp, merged};
 use crate::rows::PrimRow;

@@ -9,9 +9,11 @@ ghost use Rattle.order_merge.specs.Entries.{Fits, newest_at, living_at};
 ghost use Rattle.order_merge.specs.Views.{lists_of};
 ghost use Rattle.table_model.specs.Table.{Table};
 ghost use Rattle.primary_ix.specs.Rows.{prim_reading};
-ghost use Rattle.primary_ix.specs.Components.{AreAllLent, AreShown, AreRoots, IsDamagedIn, IsTestedIn};
+ghost use Rattle.primary_ix.specs.Components.{AreShown, AreRoots};
+ghost use Rattle.primary_ix.specs.Pages.{AreAllLent, IsDamagedIn, IsTestedIn};
 ghost use Rattle.primary_ix.specs.Lookups.{lookup_pages, view_pages, in_memory};
-ghost use Rattle.primary_ix.specs.Wanted.{record_in, record_of, wanted_rows, table_row};
+ghost use Rattle.primary_ix.specs.Wanted.{wanted_rows, table_row};
+ghost use Rattle.primary_ix.specs.Records.{record_in, record_of};
 
 use crate::component::{PrimComp, PrimView};
 use crate::rows::PrimRow;

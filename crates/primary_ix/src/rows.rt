@@ -3,7 +3,7 @@
 ghost use Rattle.std.specs.Prelude.{◌≡◌, Some};
 ghost use Rattle.btree_image.specs.Rows.{IsStored};
 ghost use Rattle.primary_ix.specs.Rows.{prim_layout};
-ghost use Rattle.primary_ix.specs.Wanted.{record_in};
+ghost use Rattle.primary_ix.specs.Records.{record_in};
 
 use crate::bytes::{KEY_BYTES, key_in, read_row, write_row};
 use btree_image::TreeRow;

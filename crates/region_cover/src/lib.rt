@@ -80,6 +80,3 @@ pub fn meets(cell: CellNumber, rect: &Rect) -> bool
     let (x, y) = point_of(CurveValue::from(cell) << (2 * CELL_ORDER));
     cells_met(rect).has(x, y)
 }
-
-#[cfg(test)]
-mod tests;

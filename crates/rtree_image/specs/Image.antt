@@ -2,7 +2,8 @@
 use Rattle.std.specs.Prelude.{◌≡◌, ℕ, zero, suc, ◌+◌, ◌*◌, List, ◌++◌, length, take, drop, map, All, Bool, IsTrue, Option, Some}
 use Rattle.std.specs.Int.{to_be_bytes, w32}
 use Rattle.page_codec.specs.declared.kinds.TheConstants.{RTREE_LEAF, RTREE_INNER}
-use Rattle.page_codec.specs.Page.{page_of, most_rows, ShowsRows}
+use Rattle.page_codec.specs.Page.{most_rows, ShowsRows}
+use Rattle.page_codec.specs.Written.{page_of}
 use Rattle.tree_shape.specs.declared.levels.Shape.{Shape}
 use Rattle.tree_shape.specs.Shape.{level_size, level_start, span, IsPlace, children_at}
 use Rattle.rtree_image.specs.declared.rows.RtRow.{RtRow}

@@ -4,4 +4,3 @@ pub mod Image
 pub mod Visits
 pub mod Damage
 pub mod Steps
-pub mod TestPages

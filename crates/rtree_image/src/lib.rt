@@ -10,8 +10,6 @@ mod in_page;
 mod levels;
 mod load;
 mod rows;
-#[cfg(test)]
-mod tests;
 mod walk;
 
 pub use load::{load_page, pages_for};

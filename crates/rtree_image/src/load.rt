@@ -1,7 +1,9 @@
 //! The image of a list, written page by page.
 
 ghost use Rattle.std.specs.Prelude.{◌≡◌, ℕ, suc, [], ◌∷◌, ◌+◌, ◌*◌, ◌^◌, ◌<◌, ◌≤◌, ◌++◌, List, length};
-ghost use Rattle.page_codec.specs.Page.{ShowsRows, page_of, kind_of, row_count, row_width, most_rows, AllOfWidth};
+ghost use Rattle.page_codec.specs.Page.{ShowsRows, kind_of, row_count, row_width, most_rows};
+ghost use Rattle.page_codec.specs.Written.{page_of};
+ghost use Rattle.page_codec.specs.Adding.{AllOfWidth};
 ghost use Rattle.page_codec.specs.declared.kinds.TheConstants.{RTREE_LEAF, RTREE_INNER};
 ghost use Rattle.tree_shape.specs.Shape.{level_size, level_start, span, IsRoot, IsPlace};
 ghost use Rattle.rtree_image.specs.Bounds.{bounding};

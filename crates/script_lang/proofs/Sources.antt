@@ -3,7 +3,7 @@ use Rattle.std.specs.Prelude.{◌≡◌, ℕ, ◌+◌, ◌≤◌, List, [], ◌+
 use Rattle.std.proofs.Common.{ap, sym, ◌∙◌, subst, refl, append_assoc}
 use Rattle.std.proofs.lemmas.List.{take-append-drop, append-nil}
 use Rattle.dev_model.specs.declared.streams.Failed.{Failed}
-use Rattle.dev_model.specs.Streams.{Gives, Gave}
+use Rattle.dev_model.specs.StreamCalls.{Gives, Gave}
 use Rattle.line_fold.specs.Folding.{folded}
 use Rattle.line_fold.specs.Laws.Streaming.{Progress}
 use Rattle.script_lang.specs.declared.commands.Script.{Script}
@@ -12,7 +12,7 @@ use Rattle.script_lang.specs.declared.commands.ScriptFault.TheVariants.{Source, 
 use Rattle.script_lang.specs.declared.limits.TheConstants.{MOST_LINE}
 use Rattle.script_lang.specs.Faults.{Fails, ReadsFrom, CountsFaults}
 use Rattle.script_lang.specs.Scripts.{Wrong, bad_line, too_long, Reading, after_line, first_reading, script_in, script_of}
-use Rattle.script_lang.specs.Views.{phases_of}
+use Rattle.script_lang.specs.CommandViews.{phases_of}
 use Rattle.script_lang.specs.Reader.{Breaks, Behind, TakesPiece, after_input}
 use Rattle.script_lang.proofs.Pieces.{begins, input_folded}
 

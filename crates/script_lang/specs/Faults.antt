@@ -7,7 +7,7 @@ use Rattle.script_lang.specs.declared.commands.Script.{Script}
 use Rattle.script_lang.specs.declared.commands.ScriptFault.{ScriptFault}
 use Rattle.script_lang.specs.declared.commands.ScriptFault.TheVariants.{Source, BadLine, TooLong, OutOfMemory}
 use Rattle.script_lang.specs.Scripts.{Wrong, bad_line, too_long, script_of}
-use Rattle.script_lang.specs.Views.{phases_of}
+use Rattle.script_lang.specs.CommandViews.{phases_of}
 
 -- A call answered what the script of the bytes is, unless the source failed or memory ran out.
 abbrev pub Fails : {X : Type 0} → ScriptFault → Result X Wrong → Type 0

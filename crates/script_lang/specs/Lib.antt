@@ -1,4 +1,5 @@
 pub mod Blanks
+pub mod CommandViews
 pub mod Examples
 pub mod Faults
 pub mod Grammar

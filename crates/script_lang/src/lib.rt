@@ -19,6 +19,3 @@ pub use printing::{print_answer, print_refused};
 pub use reading::read_script;
 pub use table_model::Why;
 pub use worked::{worked_refusals, worked_scripts};
-
-#[cfg(test)]
-mod tests;

@@ -3,7 +3,7 @@ ghost use Rattle.std.specs.Prelude.{◌≡◌, None, Some};
 ghost use Rattle.std.specs.Option.{option_map};
 ghost use Rattle.script_lang.specs.Words.{words_of};
 ghost use Rattle.script_lang.specs.Grammar.{put_line, del_line, get_line, region_line, meaning_of, meaning_of_words, read_by, forms, or_bad, at_end, step};
-ghost use Rattle.script_lang.specs.Views.{command_of, meaning_as};
+ghost use Rattle.script_lang.specs.CommandViews.{command_of, meaning_as};
 
 use crate::commands::Command;
 use crate::fields::{key_field, kind_field, rect_field, row_field};

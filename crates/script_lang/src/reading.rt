@@ -5,7 +5,7 @@ ghost use Rattle.script_lang.specs.Grammar.{meaning_of};
 ghost use Rattle.script_lang.specs.Reader.{Leaves, Behind, TakesPiece, IsFeedAt, after_part, after_end, after_input, added};
 ghost use Rattle.script_lang.specs.Faults.{ReadsFrom, CountsFaults};
 ghost use Rattle.script_lang.specs.Scripts.{first_reading};
-ghost use Rattle.script_lang.specs.Views.{phases_of, meaning_as};
+ghost use Rattle.script_lang.specs.CommandViews.{phases_of, meaning_as};
 
 use crate::commands::{CommandList, LaneList, Script, ScriptFault};
 use crate::limits::{MOST_BYTES, MOST_COMMANDS, MOST_LINE};
@@ -33,7 +33,7 @@ impl Model for Reader {
     ghost use Rattle.std.specs.Prelude.{◌+◌, ◌≤◌, [], take, length};
     ghost use Rattle.line_fold.specs.Laws.Streaming.{Progress};
     ghost use Rattle.script_lang.specs.Scripts.{Reading};
-    ghost use Rattle.script_lang.specs.Views.{commands_of};
+    ghost use Rattle.script_lang.specs.CommandViews.{commands_of};
     ghost use Rattle.script_lang.specs.declared.limits.TheConstants.{MOST_BYTES};
     ghost use Rattle.script_lang.specs.declared.reading.TheConstants.{FRONT};
 

@@ -5,7 +5,8 @@ use Rattle.std.specs.List.Sorted.{IsPartitionedBy}
 use Rattle.std.proofs.lemmas.Bool.{cases_lt, cases_eq, le-ltb, lt-ltb, ltb-true, eq-eqb, ne_eqb, or_parts, and_parts, and_left, and_right, cases_Bool}
 use Rattle.std.proofs.lemmas.List.{get_or_default}
 use Rattle.space_map.specs.declared.space.Extent.{Extent}
-use Rattle.space_map.specs.Space.{end_of, is_in, is_reserved, AreApart, IsFreeIn, with_extent, without_extent}
+use Rattle.space_map.specs.Space.{end_of, is_in, is_reserved, IsFreeIn, with_extent}
+use Rattle.space_map.specs.Calls.{AreApart, without_extent}
 use Rattle.space_map.proofs.Gaps.{free-outside, apart-lower, is_in-inside, is_in-below, is_reserved-below}
 
 -- the list with an extent where it belongs: behind those that begin before it

@@ -5,7 +5,8 @@ use Rattle.std.proofs.lemmas.List.{drop_more, drop_all}
 use Rattle.std.proofs.lemmas.Bool.{cases_lt, lt-leb, le-ltb, lt-ltb, le-leb, and_left, and_right, and_from, or_from, or_parts, true≢false}
 use Rattle.space_map.specs.declared.space.Extent.{Extent}
 use Rattle.space_map.specs.declared.space.TheConstants.{FIRST_DATA_PAGE}
-use Rattle.space_map.specs.Space.{Space, end_of, is_in, is_reserved, AreApart, IsFreeIn, IsFreeRun, IsFirstFit}
+use Rattle.space_map.specs.Space.{Space, end_of, is_in, is_reserved, IsFreeIn, IsFreeRun, IsFirstFit}
+use Rattle.space_map.specs.Calls.{AreApart}
 
 pub is_in-below : (page : ℕ) (e : Extent) → page < e.first → is_in page e ≡ false
 is_in-below page e h = and_left _ _ (lt-leb e.first page h)

@@ -3,7 +3,8 @@ use Rattle.std.proofs.Common.{◌≡◌, ℕ, ◌+◌, ◌≤◌, Bool, false, c
 use Rattle.std.proofs.lemmas.Bool.{cases_lt, cases_Bool, or_from}
 use Rattle.space_map.specs.declared.space.Extent.{Extent}
 use Rattle.space_map.specs.declared.space.TheConstants.{FIRST_DATA_PAGE}
-use Rattle.space_map.specs.Space.{Space, end_of, is_reserved, IsFreeRun, IsFirstFit, with_extent, without_extent, reserved_with, released_from, reserved_end}
+use Rattle.space_map.specs.Space.{Space, end_of, is_reserved, IsFreeRun, IsFirstFit, with_extent, reserved_with}
+use Rattle.space_map.specs.Calls.{without_extent, released_from, reserved_end}
 use Rattle.space_map.specs.History.{Reserved, Released, FirstFitStaysNear}
 use Rattle.space_map.proofs.Gaps.{is_in-above}
 

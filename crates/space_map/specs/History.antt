@@ -2,7 +2,8 @@
 use Rattle.std.specs.Prelude.{◌≡◌, ℕ, ◌+◌, ◌≤◌, List, [], ◌∷◌}
 use Rattle.std.specs.List.{Contains}
 use Rattle.space_map.specs.declared.space.Extent.{Extent}
-use Rattle.space_map.specs.Space.{Space, IsFirstFit, reserved_with, released_from, reserved_end}
+use Rattle.space_map.specs.Space.{Space, IsFirstFit, reserved_with}
+use Rattle.space_map.specs.Calls.{released_from, reserved_end}
 
 pub data Change : Type 0 where
   Reserved : Extent → Change

@@ -1,3 +1,4 @@
-pub mod Space
-pub mod History
+pub mod Calls
 pub mod Fault
+pub mod History
+pub mod Space

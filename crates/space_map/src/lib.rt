@@ -3,8 +3,6 @@
 
 mod history;
 mod space;
-#[cfg(test)]
-mod tests;
 
 pub use history::first_fit_stays_near;
 pub use space::{Extent, FIRST_DATA_PAGE, LEAST_PAGES, MOST_PAGES, SpaceFault, SpaceMap};

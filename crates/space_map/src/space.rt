@@ -60,7 +60,8 @@ pub struct SpaceMap {
 }
 
 impl Model for SpaceMap {
-    ghost use Rattle.space_map.specs.Space.{Space, AreApart};
+    ghost use Rattle.space_map.specs.Space.{Space};
+    ghost use Rattle.space_map.specs.Calls.{AreApart};
     ghost use Rattle.space_map.specs.declared.space.TheConstants.{FIRST_DATA_PAGE};
 
     ghost Value = { Space };
@@ -71,7 +72,8 @@ impl Model for SpaceMap {
 }
 
 impl SpaceMap {
-    ghost use Rattle.space_map.specs.Space.{end_of, is_in, is_reserved, IsSpace, IsFreeRun, IsFirstFit, IsLongest, IsRefusal, reserved_with, released_from, reserved_end};
+    ghost use Rattle.space_map.specs.Space.{end_of, is_in, is_reserved, IsFreeRun, IsFirstFit, IsLongest, reserved_with};
+    ghost use Rattle.space_map.specs.Calls.{IsSpace, IsRefusal, released_from, reserved_end};
 
     /// A map of a device of so many pages, on which nothing from the first data page on is reserved.
     pub fn new(alloc: Global, pages: u32) -> SpaceMap
@@ -173,7 +175,8 @@ impl SpaceMap {
     }
 }
 
-ghost use Rattle.space_map.specs.Space.{AreApart, IsFreeIn};
+ghost use Rattle.space_map.specs.Space.{IsFreeIn};
+ghost use Rattle.space_map.specs.Calls.{AreApart};
 
 // How many extents begin before a page.
 fn place_of(extents: &[Extent], end: u32, first: u32) -> usize

@@ -1,5 +1,5 @@
 -- What a format leaves of a table: the empty one afterwards, and before that the one that was there, or none.
-use Rattle.std.proofs.Common.{◌≡◌, inl, inr, ℕ, List, [], Option, Ok, Err, Result, OnOk, refl, sym, subst}
+use Rattle.std.proofs.Common.{◌≡◌, inl, inr, ℕ, List, [], Option, Ok, Err, Result, OnOk, refl, subst}
 use Rattle.std.specs.FinMap.{empty}
 use Rattle.dev_model.specs.Counts.{HasCause}
 use Rattle.dev_model.specs.Story.{Bytes, Story, bytes_of, WhereTold, IsSettled}
@@ -7,39 +7,23 @@ use Rattle.dev_model.specs.declared.streams.Failed.{Failed}
 use Rattle.dev_model.specs.Moments.{LeavesOnly}
 use Rattle.dev_model.specs.Laws.Runs.{LeavesOnly-weaker}
 use Rattle.table_model.specs.Table.{Table}
-use Rattle.comp_dir.specs.Directory.{IsLooked}
-use Rattle.image_model.specs.Directory.{HasNoComponent}
-use Rattle.image_model.specs.Opening.{IsSlotGate}
-use Rattle.component_image.specs.Recovered.{IsLookedAt}
 use Rattle.component_image.specs.Components.{IsInExtents}
-use Rattle.component_image.specs.Told.{AreTold}
 use Rattle.component_image.specs.Laws.Agreeing.{recovers-same}
-use Rattle.component_image.specs.Laws.Without.{recovers-alone, no_components}
+use Rattle.component_image.specs.Laws.Without.{no_components}
 use Rattle.device_format.specs.Formatting.{IsFreshStore, HasNoStore, IsBeforeOrAfter, IsNoneOrEmpty}
 use Rattle.device_format.specs.Planning.{Formats}
-use Rattle.store_machine.specs.Standing.{DeviceState}
+use Rattle.store_machine.specs.Devices.{DeviceState, HoldsTable}
 use Rattle.spatial_run.specs.Endings.{Ending, format_failed}
-use Rattle.spatial_run.specs.OnDevice.{Formatting, HoldsTable, IsTableOrNone}
+use Rattle.spatial_run.specs.ByEvents.{FormattingBy}
+use Rattle.spatial_run.specs.OnDevice.{IsTableOrNone}
 use Rattle.spatial_run.specs.Parts.{FormatStopped}
 
-fresh-holds : (pages indexes : ℕ) (s : Story) → IsFreshStore pages indexes s → HoldsTable pages empty s
+pub fresh-holds : (pages indexes : ℕ) (s : Story) → IsFreshStore pages indexes s → HoldsTable pages empty s
 fresh-holds pages indexes s fresh = record {
-  looked_calm = looked;
-  content_calm = λ i at. absurd (subst (λ slots. IsInExtents slots i) (no_components (bytes_of s) closed) at);
-  recovers = recovers-alone (bytes_of s) closed pages empty fresh.store.recovers (subst (AreTold empty) (sym fresh.store.no_records) tt);
+  looked_calm = fresh.calm;
+  content_calm = λ i at. absurd (subst (λ slots. IsInExtents slots i) (no_components (bytes_of s) fresh.store.no_slots) at);
+  recovers = fresh.store.recovers;
 }
-  where
-    closed : HasNoComponent (bytes_of s)
-    closed = fresh.store.recovers.opens.directory
-
-    slot_gate : (i : ℕ) → IsLooked (bytes_of s) i → IsSlotGate i
-    slot_gate i (n, lt, inl gate) = (n, lt, gate)
-    slot_gate i (n, lt, inr body) = absurd (closed n lt body.0)
-
-    looked : (i : ℕ) → IsLookedAt (bytes_of s) i → IsSettled s.past i
-    looked i (inl at) = fresh.calm i (inl at)
-    looked i (inr (inl at)) = fresh.calm i (inr (inl (slot_gate i at)))
-    looked i (inr (inr at)) = fresh.calm i (inr (inr at))
 
 table-or-none : (pages indexes : ℕ) (old new : Option Story) → WhereTold old (λ s. IsSettled s.past 0 → LeavesOnly s new (IsBeforeOrAfter pages indexes s))
     → (table : Table) → WhereTold old (λ s. HoldsTable pages table s → LeavesOnly s new (IsTableOrNone pages indexes table))
@@ -55,21 +39,23 @@ pub formatting-of : (indexes : ℕ) (old new : DeviceState) (result : Result (Un
     → OnOk result (WhereTold new.story (IsFreshStore old.pages indexes))
     → WhereTold old.story (λ s. IsSettled s.past 0 → LeavesOnly s new.story (IsBeforeOrAfter old.pages indexes s))
     → WhereTold old.story (λ s. HasNoStore s → LeavesOnly s new.story (IsNoneOrEmpty old.pages indexes))
-    → new.pages ≡ old.pages → HasCause old.faults new.faults result → Formatting indexes old new result
+    → new.pages ≡ old.pages → HasCause old.faults new.faults result → FormattingBy indexes old new result
 formatting-of indexes old new result formats formatted any over same_pages cause = record {
+  formatting = record {
+    formatted = formatted;
+    empty_table = emptied result formatted;
+    any_moment = any;
+    any_table = table-or-none old.pages indexes old.story new.story any;
+    over_none = over;
+    same_pages = same_pages;
+    cause = cause;
+  };
   formats = formats;
-  formatted = formatted;
-  empty_table = emptied result formatted;
-  any_moment = any;
-  any_table = table-or-none old.pages indexes old.story new.story any;
-  over_none = over;
-  same_pages = same_pages;
-  cause = cause;
 }
   where
     emptied : (r : Result (Unit {0}) Failed) → OnOk r (WhereTold new.story (IsFreshStore old.pages indexes)) → OnOk r (WhereTold new.story (HoldsTable old.pages empty))
     emptied (Ok x) fresh = λ s is. fresh-holds old.pages indexes s (fresh s is)
     emptied (Err failed) fresh = tt
 
-pub format-stopped : (indexes : ℕ) (old new : DeviceState) (failed : Failed) (acks : List ℕ) (e : Ending) → e ≡ format_failed → acks ≡ [] → Formatting indexes old new (Err failed) → FormatStopped indexes old new acks e
+pub format-stopped : (indexes : ℕ) (old new : DeviceState) (failed : Failed) (acks : List ℕ) (e : Ending) → e ≡ format_failed → acks ≡ [] → FormattingBy indexes old new (Err failed) → FormatStopped indexes old new acks e
 format-stopped indexes old new failed acks e is none formatting = record { ending = is; failed = failed; formatting = formatting; acks_are = none }

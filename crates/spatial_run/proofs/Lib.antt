@@ -4,3 +4,8 @@ pub mod Refusing
 pub mod Fresh
 pub mod Ends
 pub mod Making
+pub mod Since
+pub mod Faults
+pub mod Unfinished
+pub mod ByEvents
+pub mod Reopened

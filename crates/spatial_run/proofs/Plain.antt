@@ -1,17 +1,14 @@
 -- A run that has a setup alone: its history and its text.
-use Rattle.std.specs.Prelude.{◌≡◌, ℕ, ◌+◌, ◌<◌, Bool, true, false, cond, ◌||◌, List, [], ◌∷◌, ◌++◌, length, map, All, Result, is_err}
-use Rattle.std.specs.List.{list_any, flat_map}
+use Rattle.std.specs.Prelude.{◌≡◌, ℕ, ◌+◌, ◌<◌, cond, List, [], ◌∷◌, ◌++◌, length, map, All}
+use Rattle.std.specs.List.{flat_map}
 use Rattle.std.proofs.Common.{ap, sym, ◌∙◌, subst, arith, refl}
 use Rattle.std.proofs.lemmas.Bool.{lt-ltb}
 use Rattle.std.proofs.lemmas.List.{append-nil}
-use Rattle.dev_model.specs.declared.streams.Failed.{Failed}
 use Rattle.table_model.specs.Commands.{Command, on_table, flush, Outcome, answered, quiet, refused}
 use Rattle.table_model.specs.Phases.{Phases}
 use Rattle.table_model.specs.Record.{RunRecord, HistoryAnswer, FitsScript, lane_answers, lanes_answers, all_answers, in_order, inserted, history, seqs, Rises, history_text, refusals_text, lanes_refusals_text, record_text, OneEach, OneEachLane, AllApart}
-use Rattle.spatial_run.specs.Endings.{is_refused_for, any_refused_for, run_status, first_of, is_damaged, is_device, is_full, is_no_index, is_memory}
-use Rattle.spatial_run.specs.Refused.{refusals_in}
-use Rattle.table_model.specs.declared.Why.{Why}
-use Rattle.spatial_run.specs.declared.outcomes.Refusals.{Refusals}
+use Rattle.store_machine.specs.Outcomes.{refused_words}
+use Rattle.spatial_run.specs.Refused.{record_words}
 use Rattle.spatial_run.specs.Steps.{IsSetupAlone, answers_text, answered_part}
 
 abbrev seqs_in : List HistoryAnswer → List ℕ
@@ -81,26 +78,8 @@ fits_alone s r alone alone' one_each rises = record {
   after_last = λ i d h j e k. let none : j < 0 = subst (λ os. j < length (seqs os)) alone'.1 k in absurd (omega (arith, none));
 }
 
-or_false : (a : Bool) → (a || false || false) ≡ a
-or_false true = refl
-or_false false = refl
-
-any_alone : (p : Why → Bool) (r : RunRecord) → IsSetupAlone r → any_refused_for p r ≡ list_any (is_refused_for p) r.setup
-any_alone p r alone =
-    (λ i. list_any (is_refused_for p) r.setup || list_any (λ l. list_any (is_refused_for p) l) (alone.0 i) || list_any (is_refused_for p) (alone.1 i))
-    ∙ or_false (list_any (is_refused_for p) r.setup)
-
--- the status of a run, by the causes for which commands of its setup were refused
-abbrev pub status_by : Refusals → Result (Unit {0}) Failed → ℕ
-status_by f sent = first_of ((6, f.damaged) ∷ (5, f.device) ∷ (7, f.full) ∷ (9, f.no_index) ∷ (4, is_err sent) ∷ (8, f.memory) ∷ [])
-
-pub run_status_alone : (r : RunRecord) (sent : Result (Unit {0}) Failed) → IsSetupAlone r → run_status r sent ≡ status_by (refusals_in r.setup) sent
-run_status_alone r sent alone =
-    λ j. first_of (
-    (6, any_alone is_damaged r alone j)
-    ∷ (5, any_alone is_device r alone j)
-    ∷ (7, any_alone is_full r alone j)
-    ∷ (9, any_alone is_no_index r alone j)
-    ∷ (4, is_err sent)
-    ∷ (8, any_alone is_memory r alone j)
-    ∷ [])
+-- the words of the commands that were refused
+pub record_words_alone : (r : RunRecord) → IsSetupAlone r → record_words r ≡ refused_words r.setup
+record_words_alone r alone =
+    let same : record_words r ≡ (refused_words r.setup ++ []) ++ [] = λ i. refused_words r.setup ++ flat_map refused_words (alone.0 i) ++ refused_words (alone.1 i) in
+    same ∙ append-nil (refused_words r.setup ++ []) ∙ append-nil (refused_words r.setup)

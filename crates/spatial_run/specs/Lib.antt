@@ -1,7 +1,9 @@
+pub mod ByEvents
 pub mod Endings
 pub mod OnDevice
 pub mod Parts
 pub mod Refused
+pub mod Reopening
 pub mod Steps
 pub mod Tasks
 pub mod Views

@@ -7,9 +7,13 @@ use Rattle.table_model.specs.Commands.{Command}
 use Rattle.table_model.specs.Phases.{Phases}
 use Rattle.table_model.specs.Record.{RunRecord}
 use Rattle.script_lang.specs.Scripts as script
-use Rattle.store_machine.specs.Standing.{DeviceState, StoreState}
-use Rattle.spatial_run.specs.OnDevice.{Formatting, OnlyOpened, NotOpened, RanOn}
-use Rattle.spatial_run.specs.Endings.{Ending, bad_words, source_fault, bad_line, too_long, no_memory, format_failed, formatted, not_opened, ran, IsScript, ending_text, status_of, HandsOut}
+use Rattle.store_machine.specs.Standing.{StoreState}
+use Rattle.store_machine.specs.Devices.{DeviceState}
+use Rattle.store_machine.specs.Calls.{IsReady}
+use Rattle.spatial_run.specs.declared.outcomes.Refusals.{Refusals}
+use Rattle.spatial_run.specs.ByEvents.{FormattingBy, RanByEvents}
+use Rattle.spatial_run.specs.OnDevice.{OnlyOpened, NotOpened, RanOn}
+use Rattle.spatial_run.specs.Endings.{Ending, bad_words, source_fault, bad_line, too_long, no_memory, format_failed, formatted, not_opened, ran, IsScript, ending_text, status_of, record_of_ending}
 use Rattle.spatial_run.specs.Steps.{MadeAll}
 
 -- the script was read, or the call ends so
@@ -23,16 +27,17 @@ IsReadEnd old new left (Err no_memory) = new ≡ old
 IsReadEnd old new left (Err format_failed) = ⊥
 IsReadEnd old new left (Err (formatted pages)) = ⊥
 IsReadEnd old new left (Err (not_opened _)) = ⊥
-IsReadEnd old new left (Err (ran s r)) = ⊥
+IsReadEnd old new left (Err (ran s r f)) = ⊥
 
 -- a script ran on a store that was opened
-pub record StoreRan (opened : StoreState) (new : DeviceState) (acks : List ℕ) (s : Phases Command) (r : RunRecord) : Type 0 where
+pub record StoreRan (opened : StoreState) (new : DeviceState) (acks : List ℕ) (s : Phases Command) (r : RunRecord) (f : Refusals) : Type 0 where
   pub ended : StoreState
-  pub made : MadeAll opened ended s.setup r.setup
+  pub made : MadeAll opened ended s.setup r.setup f
   pub device_is : ended.device ≡ new
   pub acks_are : ended.acks ≡ acks
   pub alone : (r.lanes ≡ []) × (r.after ≡ [])
   pub few : length r.setup < 2 ^ 63
+  pub ready : IsReady ended
 
 abbrev pub IsStoreEnd : Phases Command → StoreState → DeviceState → List ℕ → Ending → Type 0
 IsStoreEnd s opened new acks bad_words = ⊥
@@ -43,7 +48,7 @@ IsStoreEnd s opened new acks no_memory = (opened.device ≡ new) × (opened.acks
 IsStoreEnd s opened new acks format_failed = ⊥
 IsStoreEnd s opened new acks (formatted pages) = ⊥
 IsStoreEnd s opened new acks (not_opened _) = ⊥
-IsStoreEnd s opened new acks (ran t r) = (t ≡ s) × StoreRan opened new acks s r
+IsStoreEnd s opened new acks (ran t r f) = (t ≡ s) × StoreRan opened new acks s r f
 
 -- a script ran on the store of a device, or the store was not opened, or memory was refused
 abbrev pub IsRunEnd : Phases Command → (device new : DeviceState) → List ℕ → Ending → Type 0
@@ -55,19 +60,19 @@ IsRunEnd s device new acks no_memory = OnlyOpened device new × (acks ≡ [])
 IsRunEnd s device new acks format_failed = ⊥
 IsRunEnd s device new acks (formatted pages) = ⊥
 IsRunEnd s device new acks (not_opened fault) = NotOpened device new fault × (acks ≡ [])
-IsRunEnd s device new acks (ran t r) = (t ≡ s) × RanOn device new acks s r
+IsRunEnd s device new acks (ran t r f) = (t ≡ s) × RanOn device new acks s r f × RanByEvents device new acks s r f
 
 -- a device could not be formatted
 pub record FormatStopped (indexes : ℕ) (old new : DeviceState) (acks : List ℕ) (e : Ending) : Type 0 where
   pub ending : e ≡ format_failed
   pub failed : Failed
-  pub formatting : Formatting indexes old new (Err failed)
+  pub formatting : FormattingBy indexes old new (Err failed)
   pub acks_are : acks ≡ []
 
 -- a device was formatted
 pub record FormatDone (indexes : ℕ) (old new : DeviceState) (acks : List ℕ) (e : Ending) : Type 0 where
   pub ending : e ≡ formatted new.pages
-  pub formatting : Formatting indexes old new (Ok tt)
+  pub formatting : FormattingBy indexes old new (Ok tt)
   pub acks_are : acks ≡ []
 
 abbrev pub IsFormatEnd : (indexes : ℕ) → (old new : DeviceState) → List ℕ → Ending → Type 0
@@ -76,7 +81,7 @@ IsFormatEnd indexes old new acks e = FormatDone indexes old new acks e ⊎ Forma
 -- a device was formatted, and then a script ran
 pub record FreshRan (indexes : ℕ) (s : Phases Command) (old new : DeviceState) (acks : List ℕ) (e : Ending) : Type 0 where
   pub device : DeviceState
-  pub formatting : Formatting indexes old device (Ok tt)
+  pub formatting : FormattingBy indexes old device (Ok tt)
   pub end : IsRunEnd s device new acks e
 
 abbrev pub IsFreshEnd : (indexes : ℕ) → Phases Command → (old new : DeviceState) → List ℕ → Ending → Type 0
@@ -88,4 +93,4 @@ pub record IsFinished (e : Ending) (sink_old sink_new : ℕ) (before after : Opt
   pub counts : Counts sink_old sink_new sent
   pub told : Says before after (ending_text e) sent
   pub is_status : status ≡ status_of e sent
-  pub outcomes : HandsOut e r
+  pub outcomes : r ≡ record_of_ending e

@@ -1,25 +1,36 @@
--- For which causes commands were refused, as the code keeps them. No public contract needs this file.
-use Rattle.std.specs.Prelude.{◌||◌, List}
-use Rattle.std.specs.List.{list_any}
-use Rattle.table_model.specs.Commands.{Outcome}
-use Rattle.spatial_run.specs.Endings.{is_refused_for, is_damaged, is_device, is_full, is_no_index, is_memory}
+-- For which causes steps of a run were refused.
+use Rattle.std.specs.Prelude.{ℕ, Bool, List, ◌++◌, nat_eq}
+use Rattle.std.specs.List.{list_any, flat_map}
+use Rattle.table_model.specs.declared.Why.{Why}
+use Rattle.table_model.specs.declared.Why.TheVariants.{Fault, Stopped, Full, NoIndex, Damaged, Memory}
+use Rattle.table_model.specs.Record.{RunRecord}
+use Rattle.store_machine.specs.Outcomes.{refused_words}
 use Rattle.spatial_run.specs.declared.outcomes.Refusals.{Refusals}
 
--- with one outcome more
-abbrev pub with_outcome : Refusals → Outcome → Refusals
-with_outcome r o = record {
-  damaged = r.damaged || is_refused_for is_damaged o;
-  device = r.device || is_refused_for is_device o;
-  full = r.full || is_refused_for is_full o;
-  no_index = r.no_index || is_refused_for is_no_index o;
-  memory = r.memory || is_refused_for is_memory o;
-}
+-- the status of a refusal with this word
+abbrev pub status_of_why : Why → ℕ
+status_of_why Damaged = 6
+status_of_why Fault = 5
+status_of_why Stopped = 5
+status_of_why Full = 7
+status_of_why NoIndex = 9
+status_of_why Memory = 8
 
-abbrev pub refusals_in : List Outcome → Refusals
-refusals_in os = record {
-  damaged = list_any (is_refused_for is_damaged) os;
-  device = list_any (is_refused_for is_device) os;
-  full = list_any (is_refused_for is_full) os;
-  no_index = list_any (is_refused_for is_no_index) os;
-  memory = list_any (is_refused_for is_memory) os;
+-- one of the words has this status
+abbrev pub has_status : ℕ → List Why → Bool
+has_status status words = list_any (λ w. nat_eq (status_of_why w) status) words
+
+-- the words of the commands that were refused
+abbrev pub record_words : RunRecord → List Why
+record_words r = refused_words r.setup ++ flat_map refused_words r.lanes ++ refused_words r.after
+
+-- For which causes steps were refused: for what is on the device, for the device and for memory any step, of upkeep too; for room and
+-- for want of an index a command alone.
+abbrev pub refusals_by : (commands steps : List Why) → Refusals
+refusals_by commands steps = record {
+  damaged = has_status 6 steps;
+  device = has_status 5 steps;
+  full = has_status 7 commands;
+  no_index = has_status 9 commands;
+  memory = has_status 8 steps;
 }

@@ -2,7 +2,8 @@
 use Rattle.std.specs.Prelude.{List, map}
 use Rattle.table_model.specs.Commands as model
 use Rattle.table_model.specs.Record as run
-use Rattle.script_lang.specs.Views.{phases_of, reply_of}
+use Rattle.script_lang.specs.Views.{reply_of}
+use Rattle.script_lang.specs.CommandViews.{phases_of}
 use Rattle.spatial_run.specs.Endings as spec
 use Rattle.spatial_run.specs.Tasks as tasks
 use Rattle.spatial_run.specs.declared.record.Outcome.{Outcome}
@@ -38,4 +39,4 @@ ending_of NoMemory = spec.no_memory
 ending_of FormatFailed = spec.format_failed
 ending_of (Formatted pages) = spec.formatted pages
 ending_of (NotOpened fault) = spec.not_opened fault
-ending_of (Ran script outcomes) = spec.ran (phases_of script) (record_of outcomes)
+ending_of (Ran script outcomes refusals) = spec.ran (phases_of script) (record_of outcomes) refusals

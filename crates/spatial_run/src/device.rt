@@ -2,20 +2,21 @@
 ghost use Rattle.std.specs.Prelude.{◌≡◌, ◌≤◌, [], Some, Ok, Err, IfOk, IfErr};
 ghost use Rattle.std.specs.Option.{option_map};
 ghost use Rattle.space_map.specs.declared.space.TheConstants.{LEAST_PAGES, MOST_PAGES};
-ghost use Rattle.script_lang.specs.Views.{phases_of};
-ghost use Rattle.store_machine.specs.Standing.{DeviceState, OpensFrom};
+ghost use Rattle.script_lang.specs.CommandViews.{phases_of};
+ghost use Rattle.store_machine.specs.Devices.{DeviceState};
 ghost use Rattle.store_commands.specs.Commands.{IsServing};
 ghost use Rattle.store_core.specs.Stores.{state_of, device_of};
 ghost use Rattle.spatial_run.specs.Tasks as tasks;
+ghost use Rattle.spatial_run.specs.ByEvents.{IsByEvents};
 ghost use Rattle.spatial_run.specs.Endings.{IsCause};
 ghost use Rattle.spatial_run.specs.Endings as model;
 ghost use Rattle.spatial_run.specs.Views.{task_as, ending_of, outcomes_of};
-ghost use Rattle.spatial_run.specs.Steps.{IsPlain, IsSetupAlone};
+ghost use Rattle.spatial_run.specs.Steps.{IsPlain, IsSetupAlone, OpenedOn};
 ghost use Rattle.spatial_run.specs.Parts.{IsFormatEnd, IsFreshEnd, IsRunEnd, IsStoreEnd, IsReadEnd};
 
 use crate::ending::Ending;
 use crate::record::{LaneOutcomes, OutcomeList, RunRecord};
-use crate::running::run_commands;
+use crate::running::{RanCommands, run_commands};
 use crate::task::Task;
 use dev_model::{Device, Source};
 use device_format::format_dev;
@@ -46,33 +47,34 @@ fn without_commands<D: Device>(alloc: Global, ending: Ending, device: D) -> Run<
 }
 
 // The ending of a script whose commands are all in the setup.
-fn ran(alloc: Global, script: Script, setup: OutcomeList) -> Ending
-    ensures { ending_of result ≡ model.ran (phases_of script) (record { setup = outcomes_of setup.items; lanes = []; after = [] }) }
+fn ran(alloc: Global, script: Script, ran: RanCommands) -> Ending
+    ensures { ending_of result ≡ model.ran (phases_of script) (record { setup = outcomes_of ran.outcomes.items; lanes = []; after = [] }) ran.refusals }
 {
     Ending::Ran(
         script,
         RunRecord {
-            setup,
+            setup: ran.outcomes,
             lanes: LaneOutcomes::new(alloc),
             after: OutcomeList::new(alloc),
         },
+        ran.refusals,
     )
 }
 
 // The script on a store that was opened.
 fn run_on<D: Device>(alloc: Global, script: Script, store: Store<D>) -> Run<D>
     requires serving { IsServing (state_of D.pages D.clock D.fault_count D.story store) }
-    requires opened { (from : DeviceState) × OpensFrom from (state_of D.pages D.clock D.fault_count D.story store) }
+    requires opened { (from : DeviceState) × OpenedOn from (state_of D.pages D.clock D.fault_count D.story store) }
     requires alone { IsSetupAlone (phases_of script) }
     ensures end { IsStoreEnd (phases_of script) (state_of D.pages D.clock D.fault_count D.story store) (device_of D.pages D.clock D.fault_count D.story result.device) result.acks.items (ending_of result.ending) }
     ensures plain { IsPlain (ending_of result.ending) }
 {
     let mut store = store;
     match run_commands(alloc, &mut store, script.setup.as_slice()) {
-        Ok(setup) => {
+        Ok(commands) => {
             let (device, acks) = store.into_dev();
             Run {
-                ending: ran(alloc, script, setup),
+                ending: ran(alloc, script, commands),
                 device,
                 acks,
             }
@@ -155,6 +157,7 @@ fn run_serial<R: Source, D: Device>(alloc: Global, source: &mut R, device: D) ->
     requires least { LEAST_PAGES ≤ D.pages device }
     requires most { D.pages device ≤ MOST_PAGES }
     ensures cause { IsCause (Some tasks.serial) (R.fault_count source.old) (R.fault_count source.new) (R.left source.old) (device_of D.pages D.clock D.fault_count D.story device) (device_of D.pages D.clock D.fault_count D.story result.device) result.acks.items (ending_of result.ending) }
+    ensures events { IsByEvents (Some tasks.serial) (device_of D.pages D.clock D.fault_count D.story device) (device_of D.pages D.clock D.fault_count D.story result.device) result.acks.items (ending_of result.ending) }
     ensures plain { IsPlain (ending_of result.ending) }
 {
     match read(alloc, source) {
@@ -173,6 +176,7 @@ fn run_fresh<R: Source, D: Device>(
     requires least { LEAST_PAGES ≤ D.pages device }
     requires most { D.pages device ≤ MOST_PAGES }
     ensures cause { IsCause (Some (tasks.fresh indexes)) (R.fault_count source.old) (R.fault_count source.new) (R.left source.old) (device_of D.pages D.clock D.fault_count D.story device) (device_of D.pages D.clock D.fault_count D.story result.device) result.acks.items (ending_of result.ending) }
+    ensures events { IsByEvents (Some (tasks.fresh indexes)) (device_of D.pages D.clock D.fault_count D.story device) (device_of D.pages D.clock D.fault_count D.story result.device) result.acks.items (ending_of result.ending) }
     ensures plain { IsPlain (ending_of result.ending) }
 {
     match read(alloc, source) {
@@ -191,6 +195,7 @@ pub(crate) fn run_task<R: Source, D: Device>(
     requires least { LEAST_PAGES ≤ D.pages device }
     requires most { D.pages device ≤ MOST_PAGES }
     ensures cause { IsCause (option_map task_as task) (R.fault_count source.old) (R.fault_count source.new) (R.left source.old) (device_of D.pages D.clock D.fault_count D.story device) (device_of D.pages D.clock D.fault_count D.story result.device) result.acks.items (ending_of result.ending) }
+    ensures events { IsByEvents (option_map task_as task) (device_of D.pages D.clock D.fault_count D.story device) (device_of D.pages D.clock D.fault_count D.story result.device) result.acks.items (ending_of result.ending) }
     ensures plain { IsPlain (ending_of result.ending) }
 {
     match &task {

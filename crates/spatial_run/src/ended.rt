@@ -1,6 +1,6 @@
 // What a call of the program leaves.
 ghost use Rattle.std.specs.Prelude.{◌≡◌};
-ghost use Rattle.spatial_run.specs.Endings.{HandsOut};
+ghost use Rattle.spatial_run.specs.Endings.{record_of_ending};
 ghost use Rattle.spatial_run.specs.Views.{record_of, ending_of};
 ghost use Rattle.spatial_run.specs.Steps.{IsPlain};
 ghost use Rattle.spatial_run.specs.Parts.{IsFinished};
@@ -24,10 +24,10 @@ pub struct Ended<D: Device> {
 
 // The record of an ending.
 fn record_of(alloc: Global, ending: Ending) -> RunRecord
-    ensures { HandsOut (ending_of ending) (record_of result) }
+    ensures { record_of result ≡ record_of_ending (ending_of ending) }
 {
     match ending {
-        Ending::Ran(_, record) => record,
+        Ending::Ran(_, record, _) => record,
         _ => RunRecord {
             setup: OutcomeList::new(alloc),
             lanes: LaneOutcomes::new(alloc),

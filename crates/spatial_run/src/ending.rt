@@ -4,10 +4,10 @@ ghost use Rattle.dev_model.specs.declared.streams.Failed.{Failed};
 ghost use Rattle.dev_model.specs.Counts.{Counts};
 ghost use Rattle.dev_model.specs.Streams.{Says};
 ghost use Rattle.spatial_run.specs.Endings.{status_of, fault_status, run_status, ending_text, fault_text};
-ghost use Rattle.spatial_run.specs.Views.{ending_of, record_of};
-ghost use Rattle.spatial_run.specs.Steps.{IsPlain, IsSetupAlone};
+ghost use Rattle.spatial_run.specs.Views.{ending_of};
+ghost use Rattle.spatial_run.specs.Steps.{IsPlain};
 
-use crate::outcomes::{print_outcomes, refusals_of};
+use crate::outcomes::{Refusals, print_outcomes};
 use crate::record::RunRecord;
 use dev_model::{Failed, Sink, send_all};
 use itoa::Buffer;
@@ -24,7 +24,7 @@ pub(crate) enum Ending {
     FormatFailed,
     Formatted(u32),
     NotOpened(OpenFault),
-    Ran(Script, RunRecord),
+    Ran(Script, RunRecord, Refusals),
 }
 
 // Prints a number between two texts.
@@ -70,7 +70,7 @@ pub(crate) fn print_ending<K: Sink>(out: &mut K, ending: &Ending) -> Result<(), 
         Ending::FormatFailed => send_all(out, b"device fault\n"),
         Ending::Formatted(pages) => print_number(out, b"formatted ", u64::from(*pages), b"\n"),
         Ending::NotOpened(fault) => print_fault(out, *fault),
-        Ending::Ran(_, record) => print_outcomes(out, record.setup.as_slice()),
+        Ending::Ran(_, record, _) => print_outcomes(out, record.setup.as_slice()),
     }
 }
 
@@ -84,11 +84,9 @@ fn status_of_fault(fault: OpenFault, is_cut_off: bool) -> u8
     }
 }
 
-fn status_of_run(outcomes: &RunRecord, is_cut_off: bool) -> u8
-    requires { IsSetupAlone (record_of outcomes.now) }
-    ensures { (sent : Result (Unit {0}) Failed) → is_err sent ≡ is_cut_off → result ≡ run_status (record_of outcomes.now) sent }
+fn status_of_run(refusals: Refusals, is_cut_off: bool) -> u8
+    ensures { (sent : Result (Unit {0}) Failed) → is_err sent ≡ is_cut_off → result ≡ run_status refusals sent }
 {
-    let refusals = refusals_of(outcomes.setup.as_slice());
     if refusals.damaged {
         6
     } else if refusals.device {
@@ -108,7 +106,6 @@ fn status_of_run(outcomes: &RunRecord, is_cut_off: bool) -> u8
 
 /// The status of an ending whose text was sent or cut off.
 pub(crate) fn status(ending: &Ending, sent: Result<(), Failed>) -> u8
-    requires { IsPlain (ending_of ending.now) }
     ensures { result ≡ status_of (ending_of ending.now) sent }
 {
     let is_cut_off = sent.is_err();
@@ -120,6 +117,6 @@ pub(crate) fn status(ending: &Ending, sent: Result<(), Failed>) -> u8
         Ending::NoMemory => { if is_cut_off { 4 } else { 8 } }
         Ending::Formatted(_) => { if is_cut_off { 4 } else { 0 } }
         Ending::NotOpened(fault) => status_of_fault(*fault, is_cut_off),
-        Ending::Ran(_, record) => status_of_run(record, is_cut_off),
+        Ending::Ran(_, _, refusals) => status_of_run(*refusals, is_cut_off),
     }
 }

@@ -1,11 +1,13 @@
 // The outcomes of one lane, printed: first the answers by place, then the refusals.
-ghost use Rattle.std.specs.Prelude.{◌≡◌, ◌+◌, ◌-◌, ◌^◌, ◌<◌, ◌≤◌, ◌++◌};
+ghost use Rattle.std.specs.Prelude.{◌≡◌, ◌+◌, ◌-◌, ◌^◌, ◌<◌, ◌≤◌, [], ◌++◌};
+ghost use Rattle.std.specs.Option.{option_to_list};
 ghost use Rattle.dev_model.specs.Counts.{Counts};
 ghost use Rattle.dev_model.specs.Streams.{Says};
 ghost use Rattle.table_model.specs.Record.{refusals_text};
-ghost use Rattle.spatial_run.specs.Refused.{with_outcome, refusals_in};
+ghost use Rattle.store_machine.specs.Outcomes.{refused_word};
+ghost use Rattle.spatial_run.specs.Refused.{refusals_by};
 ghost use Rattle.spatial_run.specs.Views.{outcome_of, outcomes_of};
-ghost use Rattle.spatial_run.specs.Steps.{answers_text, answered_part, place_after, refused_part};
+ghost use Rattle.spatial_run.specs.Steps.{answers_text, answered_part, place_after, refused_part, with_command, with_upkeep};
 
 use crate::record::Outcome;
 use dev_model::{Failed, Sink};
@@ -80,7 +82,7 @@ pub(crate) fn print_outcomes<K: Sink>(out: &mut K, outcomes: &[Outcome]) -> Resu
     print_refusals(out, outcomes)
 }
 
-/// For which causes commands were refused.
+/// For which causes steps of a run were refused: those of commands, and for damage, the device and memory those of upkeep too.
 #[derive(Clone, Copy)]
 pub(crate) struct Refusals {
     pub damaged: bool,
@@ -90,9 +92,24 @@ pub(crate) struct Refusals {
     pub memory: bool,
 }
 
-// One outcome more.
-fn with_outcome(before: Refusals, outcome: &Outcome) -> Refusals
-    ensures { result ≡ with_outcome before (outcome_of outcome.now) }
+impl Refusals {
+    /// No step was refused.
+    pub(crate) fn none() -> Self
+        ensures { result ≡ refusals_by [] [] }
+    {
+        Refusals {
+            damaged: false,
+            device: false,
+            full: false,
+            no_index: false,
+            memory: false,
+        }
+    }
+}
+
+/// One command more.
+pub(crate) fn with_outcome(before: Refusals, outcome: &Outcome) -> Refusals
+    ensures { result ≡ with_command before (refused_word (outcome_of outcome.now)) }
 {
     let mut refusals = before;
     if let Outcome::Refused(why) = outcome {
@@ -107,19 +124,19 @@ fn with_outcome(before: Refusals, outcome: &Outcome) -> Refusals
     refusals
 }
 
-/// For which causes any of the commands was refused.
-pub(crate) fn refusals_of(outcomes: &[Outcome]) -> Refusals
-    ensures { result ≡ refusals_in (outcomes_of outcomes.now) }
+/// The upkeep behind a command, with the word of its refusal if it was refused. That there was no room is no matter then: the
+/// command was carried out.
+pub(crate) fn with_upkeep(before: Refusals, upkeep: Option<Why>) -> Refusals
+    ensures { result ≡ with_upkeep before (option_to_list upkeep) }
 {
-    let mut refusals = Refusals {
-        damaged: false,
-        device: false,
-        full: false,
-        no_index: false,
-        memory: false,
-    };
-    for outcome in outcomes {
-        refusals = with_outcome(refusals, outcome);
+    let mut refusals = before;
+    if let Some(why) = upkeep {
+        match why {
+            Why::Damaged => refusals.damaged = true,
+            Why::Fault | Why::Stopped => refusals.device = true,
+            Why::Memory => refusals.memory = true,
+            Why::Full | Why::NoIndex => {}
+        }
     }
     refusals
 }

@@ -1,13 +1,14 @@
 // The commands of a script, one after another.
-ghost use Rattle.std.specs.Prelude.{◌≡◌, ◌<◌, ◌^◌, length, IfOk, OnErr};
+ghost use Rattle.std.specs.Prelude.{◌≡◌, ◌<◌, ◌^◌, length, None, IfOk, OnErr};
 ghost use Rattle.wal_log.specs.declared.records.LogOp.TheVariants as log;
-ghost use Rattle.script_lang.specs.Views.{command_of, commands_of};
+ghost use Rattle.script_lang.specs.CommandViews.{command_of, commands_of};
 ghost use Rattle.store_machine.specs.Commands.{write_outcome, get_outcome, region_outcome, flush_outcome};
 ghost use Rattle.store_core.specs.Stores.{state_of};
 ghost use Rattle.store_commands.specs.Commands.{IsServing, HasDone, rows_found};
 ghost use Rattle.spatial_run.specs.Views.{outcome_of, outcomes_of};
 ghost use Rattle.spatial_run.specs.Steps.{MadeAll};
 
+use crate::outcomes::{Refusals, with_outcome, with_upkeep};
 use crate::record::{Outcome, OutcomeList};
 use dev_model::Device;
 use geo_base::Row;
@@ -20,6 +21,24 @@ use wal_log::LogOp;
 
 // Until there are lanes, all calls are made by one owner.
 const OWNER: u64 = 0;
+
+// What became of a command, and the word with which the upkeep behind it was refused, if it was.
+#[derive(Drop)]
+struct Done {
+    outcome: Outcome,
+    upkeep: Option<Why>,
+}
+
+// A command behind which no upkeep was due.
+fn without_upkeep(outcome: Outcome) -> Done
+    ensures outcome { result.outcome ≡ outcome }
+    ensures upkeep { result.upkeep ≡ None }
+{
+    Done {
+        outcome,
+        upkeep: None,
+    }
+}
 
 fn put_outcome(row: &Row, answer: Result<Wrote, Why>) -> Outcome
     ensures { outcome_of result ≡ write_outcome (log.Put row.now) answer }
@@ -88,25 +107,46 @@ fn flush_outcome(answer: Result<(), Why>) -> Outcome
 }
 
 // One command, with the upkeep that it needs or that is due after it.
-fn run_one<D: Device>(alloc: Global, store: &mut Store<D>, command: &Command) -> Outcome
+fn run_one<D: Device>(alloc: Global, store: &mut Store<D>, command: &Command) -> Done
     requires serving { IsServing (state_of D.pages D.clock D.fault_count D.story store.old) }
-    ensures done { HasDone (state_of D.pages D.clock D.fault_count D.story store.old) (state_of D.pages D.clock D.fault_count D.story store.new) 0 (command_of command.now) (outcome_of result) }
+    ensures done { HasDone (state_of D.pages D.clock D.fault_count D.story store.old) (state_of D.pages D.clock D.fault_count D.story store.new) 0 (command_of command.now) (outcome_of result.outcome) result.upkeep }
     ensures serving { IsServing (state_of D.pages D.clock D.fault_count D.story store.new) }
 {
     match command {
-        Command::Put(row) => put_outcome(row, write(alloc, store, OWNER, &LogOp::Put(*row))),
-        Command::Del(key) => del_outcome(*key, write(alloc, store, OWNER, &LogOp::Del(*key))),
-        Command::Get(key) => get_outcome(get(store, OWNER, *key)),
-        Command::Count => {
-            let (seq, rows) = count(store, OWNER);
-            Outcome::Answered {
-                seq,
-                answer: Answer::Counted(rows),
+        Command::Put(row) => {
+            let written = write(alloc, store, OWNER, &LogOp::Put(*row));
+            Done {
+                outcome: put_outcome(row, written.answer),
+                upkeep: written.upkeep,
             }
         }
-        Command::Region(kind, rect) => region_outcome(region(alloc, store, OWNER, *kind, rect)),
-        Command::Flush => flush_outcome(flush(alloc, store, OWNER)),
+        Command::Del(key) => {
+            let written = write(alloc, store, OWNER, &LogOp::Del(*key));
+            Done {
+                outcome: del_outcome(*key, written.answer),
+                upkeep: written.upkeep,
+            }
+        }
+        Command::Get(key) => without_upkeep(get_outcome(get(store, OWNER, *key))),
+        Command::Count => {
+            let (seq, rows) = count(store, OWNER);
+            without_upkeep(Outcome::Answered {
+                seq,
+                answer: Answer::Counted(rows),
+            })
+        }
+        Command::Region(kind, rect) => without_upkeep(region_outcome(region(
+            alloc, store, OWNER, *kind, rect,
+        ))),
+        Command::Flush => without_upkeep(flush_outcome(flush(alloc, store, OWNER))),
     }
+}
+
+/// What became of commands, and for which causes steps of theirs were refused.
+#[derive(Drop)]
+pub(crate) struct RanCommands {
+    pub outcomes: OutcomeList,
+    pub refusals: Refusals,
 }
 
 /// Runs the commands on a store. Room for all outcomes is made before the first command; where that is refused nothing is
@@ -115,16 +155,20 @@ pub(crate) fn run_commands<D: Device>(
     alloc: Global,
     store: &mut Store<D>,
     commands: &[Command],
-) -> Result<OutcomeList, AllocError>
+) -> Result<RanCommands, AllocError>
     requires serving { IsServing (state_of D.pages D.clock D.fault_count D.story store.old) }
-    ensures made { IfOk result (λ list. MadeAll (state_of D.pages D.clock D.fault_count D.story store.old) (state_of D.pages D.clock D.fault_count D.story store.new) (commands_of commands.now) (outcomes_of list.items)) }
+    ensures made { IfOk result (λ ran. MadeAll (state_of D.pages D.clock D.fault_count D.story store.old) (state_of D.pages D.clock D.fault_count D.story store.new) (commands_of commands.now) (outcomes_of ran.outcomes.items) ran.refusals) }
     ensures few { length commands.now < 2 ^ 63 }
+    ensures serving { IsServing (state_of D.pages D.clock D.fault_count D.story store.new) }
     ensures refused { OnErr result (state_of D.pages D.clock D.fault_count D.story store.new ≡ state_of D.pages D.clock D.fault_count D.story store.old) }
 {
     let mut outcomes = OutcomeList::new(alloc);
+    let mut refusals = Refusals::none();
     outcomes.reserve(commands.len())?;
     for command in commands {
-        outcomes.add(run_one(alloc, store, command));
+        let Done { outcome, upkeep } = run_one(alloc, store, command);
+        refusals = with_upkeep(with_outcome(refusals, &outcome), upkeep);
+        outcomes.add(outcome);
     }
-    Ok(outcomes)
+    Ok(RanCommands { outcomes, refusals })
 }

@@ -1,9 +1,9 @@
 // The top calls: what the program does with its words, its script, its output and its device.
 ghost use Rattle.std.specs.Prelude.{◌≤◌, Some, map};
 ghost use Rattle.space_map.specs.declared.space.TheConstants.{LEAST_PAGES, MOST_PAGES};
-ghost use Rattle.store_core.specs.Stores.{device_of};
 ghost use Rattle.spatial_run.specs.Tasks.{task_of, serial};
-ghost use Rattle.spatial_run.specs.Endings.{Ends};
+ghost use Rattle.spatial_run.specs.ByEvents.{EndsByEvents};
+ghost use Rattle.spatial_run.specs.Endings.{Ends, edges_of};
 ghost use Rattle.spatial_run.specs.Views.{record_of};
 
 use crate::device::run_task;
@@ -23,17 +23,9 @@ pub fn run_serial<R: Source, K: Sink, D: Device>(
 ) -> Ended<D>
     requires least { LEAST_PAGES ≤ D.pages device }
     requires most { D.pages device ≤ MOST_PAGES }
-    ensures headline { Ends (Some serial) (record {
-      source_old = R.fault_count script.old;
-      source_new = R.fault_count script.new;
-      left = R.left script.old;
-      sink_old = K.fault_count out.old;
-      sink_new = K.fault_count out.new;
-      before = K.taken out.old;
-      after = K.taken out.new;
-      device_old = device_of D.pages D.clock D.fault_count D.story device;
-      device_new = device_of D.pages D.clock D.fault_count D.story result.device;
-    }) result.status result.acks.items (record_of result.outcomes) }
+    ensures headline { Ends (Some serial) (edges_of R.fault_count R.left K.fault_count K.taken D.pages D.clock D.fault_count D.story script.old script.new out.old out.new device result.device) result.status result.acks.items (record_of result.outcomes) }
+    // And it is so by a list of events of the store, with the device calls of each.
+    ensures events { EndsByEvents (Some serial) (edges_of R.fault_count R.left K.fault_count K.taken D.pages D.clock D.fault_count D.story script.old script.new out.old out.new device result.device) result.status result.acks.items (record_of result.outcomes) }
 {
     let run = run_task(alloc, Some(Task::Serial), script, device);
     finish(alloc, run, out)
@@ -59,17 +51,9 @@ pub fn run_top<R: Source, K: Sink, D: Device>(
     // What is printed is one history of a plain table, each command answered as the table answers at that place; a crash at any
     // moment leaves the table after the first of the writes, with every acknowledged one; and each ending and status has its
     // cause.
-    ensures headline { Ends (task_of (map (λ w. w.now) words.now)) (record {
-      source_old = R.fault_count script.old;
-      source_new = R.fault_count script.new;
-      left = R.left script.old;
-      sink_old = K.fault_count out.old;
-      sink_new = K.fault_count out.new;
-      before = K.taken out.old;
-      after = K.taken out.new;
-      device_old = device_of D.pages D.clock D.fault_count D.story device;
-      device_new = device_of D.pages D.clock D.fault_count D.story result.device;
-    }) result.status result.acks.items (record_of result.outcomes) }
+    ensures headline { Ends (task_of (map (λ w. w.now) words.now)) (edges_of R.fault_count R.left K.fault_count K.taken D.pages D.clock D.fault_count D.story script.old script.new out.old out.new device result.device) result.status result.acks.items (record_of result.outcomes) }
+    // And it is so by a list of events of the store, with the device calls of each.
+    ensures events { EndsByEvents (task_of (map (λ w. w.now) words.now)) (edges_of R.fault_count R.left K.fault_count K.taken D.pages D.clock D.fault_count D.story script.old script.new out.old out.new device result.device) result.status result.acks.items (record_of result.outcomes) }
 {
     let run = run_task(alloc, task_of(words), script, device);
     finish(alloc, run, out)

@@ -3,14 +3,15 @@ use Rattle.std.proofs.Common.{◌≡◌, ⊎_elim, ℕ, ◌-◌, ◌<◌, ◌≤
 use Rattle.build_job.specs.Jobs.{Job}
 use Rattle.wal_log.specs.declared.log.Log.{Log}
 use Rattle.store_state.specs.Lists.{Lists, placed_up_to}
-use Rattle.store_state.specs.declared.jobs.JobRow.{JobRow}
 use Rattle.store_core.specs.Begun.{begin_of}
 use Rattle.store_machine.specs.Machine.{does}
-use Rattle.store_machine.specs.Standing.{StoreState, IsReady, IsStanding, Makes}
+use Rattle.store_machine.specs.Calls.{IsReady, IsStanding, Makes}
+use Rattle.store_machine.specs.Standing.{StoreState}
 use Rattle.store_machine.specs.Laws.Stepping.{Steps, stepped}
 use Rattle.store_machine.specs.declared.events.Action.{Action}
 use Rattle.store_machine.specs.declared.events.Action.TheVariants as action
 use Rattle.store_machine.specs.declared.events.Look.{Look}
+use Rattle.store_machine.specs.declared.events.OwnedJob.{OwnedJob}
 use Rattle.store_machine.specs.declared.events.Refusal.{Refusal}
 use Rattle.store_commands.specs.Commands.{IsServing}
 use Rattle.store_commands.specs.Upkeep.{KeepsUp, HasWritten, HasNoFrozen, HasFlushed}
@@ -24,47 +25,47 @@ log-stays old new owner a standing m stays =
     steps.log ∙ stays steps.machine ∙ sym steps.has.log
 
 -- a page of the job that the owner has
-pub page-log : (old new : StoreState) (owner : ℕ) (row : JobRow) (result : Result (Unit {0}) Refusal) → IsStanding old → Makes old new owner (action.JobWrite row result) → new.log ≡ old.log
-page-log old new owner row (Ok x) standing m = log-stays old new owner (action.JobWrite row (Ok x)) standing m (λ n. refl)
-page-log old new owner row (Err refusal) standing m = log-stays old new owner (action.JobWrite row (Err refusal)) standing m (λ n. refl)
+pub page-log : (old new : StoreState) (owner : ℕ) (owned : OwnedJob) (result : Result (Unit {0}) Refusal) → IsStanding old → Makes old new owner (action.JobWrite owned result) → new.log ≡ old.log
+page-log old new owner owned (Ok x) standing m = log-stays old new owner (action.JobWrite owned (Ok x)) standing m (λ n. refl)
+page-log old new owner owned (Err refusal) standing m = log-stays old new owner (action.JobWrite owned (Err refusal)) standing m (λ n. refl)
 
-pub page-next : (a b c : StoreState) (owner : ℕ) (row : JobRow) → KeepsUp a b owner (Ok tt) → Makes b c owner (action.JobWrite row (Ok tt)) → KeepsUp a c owner (Ok tt)
-page-next a b c owner row keeps m = keeps-then a b c owner (Ok tt) keeps (keeps-one b c owner (action.JobWrite row (Ok tt)) m refl)
+pub page-next : (a b c : StoreState) (owner : ℕ) (owned : OwnedJob) → KeepsUp a b owner (Ok tt) → Makes b c owner (action.JobWrite owned (Ok tt)) → KeepsUp a c owner (Ok tt)
+page-next a b c owner owned keeps m = keeps-then a b c owner (Ok tt) keeps (keeps-one b c owner (action.JobWrite owned (Ok tt)) m refl refl)
 
-pub page-refused : (a b c : StoreState) (owner : ℕ) (row : JobRow) (refusal : Refusal) → KeepsUp a b owner (Ok tt) → IsStanding b → Makes b c owner (action.JobWrite row (Err refusal)) → KeepsUp a c owner (Err refusal)
-page-refused a b c owner row refusal keeps standing m =
-    keeps-then a b c owner (Err refusal) keeps (keeps-refused b c owner (action.JobWrite row (Err refusal)) refusal m refl refl (page-final b c owner row refusal standing m))
+pub page-refused : (a b c : StoreState) (owner : ℕ) (owned : OwnedJob) (refusal : Refusal) → KeepsUp a b owner (Ok tt) → IsStanding b → Makes b c owner (action.JobWrite owned (Err refusal)) → KeepsUp a c owner (Err refusal)
+page-refused a b c owner owned refusal keeps standing m =
+    keeps-then a b c owner (Err refusal) keeps (keeps-refused b c owner (action.JobWrite owned (Err refusal)) refusal m refl refl (page-final b c owner owned refusal standing m))
 
-pub page-failed : (a b c : StoreState) (owner : ℕ) (row : JobRow) (job : Job) (refusal : Refusal) → b.log ≡ a.log → IsStanding b → Makes b c owner (action.JobWrite row (Err refusal)) → HasWritten a c owner job (Err refusal)
-page-failed a b c owner row job refusal log standing m = record {
-  log = page-log b c owner row (Err refusal) standing m ∙ log;
+pub page-failed : (a b c : StoreState) (owner : ℕ) (owned : OwnedJob) (job : Job) (refusal : Refusal) → b.log ≡ a.log → IsStanding b → Makes b c owner (action.JobWrite owned (Err refusal)) → HasWritten a c owner job (Err refusal)
+page-failed a b c owner owned job refusal log standing m = record {
+  log = page-log b c owner owned (Err refusal) standing m ∙ log;
   written = tt;
-  stopped = page-stops b c owner row refusal standing m;
+  stopped = page-stops b c owner owned refusal standing m;
 }
 
 -- the install
-install-keeps : (b c : StoreState) (owner : ℕ) (row : JobRow) (result : Result (Unit {0}) Refusal) → IsStanding b → Makes b c owner (action.Install row result) → KeepsUp b c owner result
-install-keeps b c owner row (Ok x) standing m = keeps-one b c owner (action.Install row (Ok tt)) m refl
-install-keeps b c owner row (Err refusal) standing m = keeps-refused b c owner (action.Install row (Err refusal)) refusal m refl refl (install-final b c owner row refusal standing m)
+install-keeps : (b c : StoreState) (owner : ℕ) (owned : OwnedJob) (result : Result (Unit {0}) Refusal) → IsStanding b → Makes b c owner (action.Install owned result) → KeepsUp b c owner result
+install-keeps b c owner owned (Ok x) standing m = keeps-one b c owner (action.Install owned (Ok tt)) m refl refl
+install-keeps b c owner owned (Err refusal) standing m = keeps-refused b c owner (action.Install owned (Err refusal)) refusal m refl refl (install-final b c owner owned refusal standing m)
 
-pub install-then : (a b c : StoreState) (owner : ℕ) (row : JobRow) (result : Result (Unit {0}) Refusal) → KeepsUp a b owner (Ok tt) → IsStanding b → Makes b c owner (action.Install row result) → KeepsUp a c owner result
-install-then a b c owner row result keeps standing m = keeps-then a b c owner result keeps (install-keeps b c owner row result standing m)
+pub install-then : (a b c : StoreState) (owner : ℕ) (owned : OwnedJob) (result : Result (Unit {0}) Refusal) → KeepsUp a b owner (Ok tt) → IsStanding b → Makes b c owner (action.Install owned result) → KeepsUp a c owner result
+install-then a b c owner owned result keeps standing m = keeps-then a b c owner result keeps (install-keeps b c owner owned result standing m)
 
-pub install-serving : (b c : StoreState) (owner : ℕ) (row : JobRow) (result : Result (Unit {0}) Refusal) → IsStanding b → Makes b c owner (action.Install row result) → IsReady c → IsServing c
-install-serving b c owner row (Ok x) standing m ready =
-    let steps : Steps b c (action.Install row (Ok x)) = stepped b c owner (action.Install row (Ok x)) standing m in
-    record { ready = ready; standing = standing-after b c owner (action.Install row (Ok x)) standing m; idle = λ going. ap (λ (l : Lists). l.job) steps.lists }
-install-serving b c owner row (Err refusal) standing m ready = record {
+pub install-serving : (b c : StoreState) (owner : ℕ) (owned : OwnedJob) (result : Result (Unit {0}) Refusal) → IsStanding b → Makes b c owner (action.Install owned result) → IsReady c → IsServing c
+install-serving b c owner owned (Ok x) standing m ready =
+    let steps : Steps b c (action.Install owned (Ok x)) = stepped b c owner (action.Install owned (Ok x)) standing m in
+    record { ready = ready; standing = standing-after b c owner (action.Install owned (Ok x)) standing m; idle = λ going. ap (λ (l : Lists). l.job) steps.lists }
+install-serving b c owner owned (Err refusal) standing m ready = record {
   ready = ready;
-  standing = standing-after b c owner (action.Install row (Err refusal)) standing m;
-  idle = λ going. absurd (install-stops b c owner row refusal standing m going);
+  standing = standing-after b c owner (action.Install owned (Err refusal)) standing m;
+  idle = λ going. absurd (install-stops b c owner owned refusal standing m going);
 }
 
-pub install-none : (a b c : StoreState) (owner : ℕ) (row : JobRow) (result : Result (Unit {0}) Refusal) → b.log ≡ a.log → IsStanding b → Makes b c owner (action.Install row result) → HasNoFrozen a c result
-install-none a b c owner row (Ok x) log standing m =
-    let steps : Steps b c (action.Install row (Ok x)) = stepped b c owner (action.Install row (Ok x)) standing m in
-    record { log = log-stays b c owner (action.Install row (Ok x)) standing m (λ n. refl) ∙ log; frozen = ap (λ (l : Lists). l.frozen) steps.lists }
-install-none a b c owner row (Err refusal) log standing m = record { log = log-stays b c owner (action.Install row (Err refusal)) standing m (λ n. refl) ∙ log; frozen = tt }
+pub install-none : (a b c : StoreState) (owner : ℕ) (owned : OwnedJob) (result : Result (Unit {0}) Refusal) → b.log ≡ a.log → IsStanding b → Makes b c owner (action.Install owned result) → HasNoFrozen a c result
+install-none a b c owner owned (Ok x) log standing m =
+    let steps : Steps b c (action.Install owned (Ok x)) = stepped b c owner (action.Install owned (Ok x)) standing m in
+    record { log = log-stays b c owner (action.Install owned (Ok x)) standing m (λ n. refl) ∙ log; frozen = ap (λ (l : Lists). l.frozen) steps.lists }
+install-none a b c owner owned (Err refusal) log standing m = record { log = log-stays b c owner (action.Install owned (Err refusal)) standing m (λ n. refl) ∙ log; frozen = tt }
 
 -- pages that were refused leave a store that is stopped
 pub pages-serving : (a b : StoreState) (owner : ℕ) (job : Job) (refusal : Refusal) → HasWritten a b owner job (Err refusal) → IsReady b → IsStanding b → IsServing b
@@ -86,7 +87,7 @@ frozen-as a b owner least x y same m = subst (λ (z : Bool). Makes a b owner (ac
 
 -- the begin of a job, and what follows it
 pub begin-then : (a b c : StoreState) (owner : ℕ) (job : Job) (result : Result (Unit {0}) Refusal) → Makes a b owner (begin_of owner (Ok (Some job))) → KeepsUp b c owner result → KeepsUp a c owner result
-begin-then a b c owner job result m keeps = keeps-then a b c owner result (keeps-one a b owner (begin_of owner (Ok (Some job))) m refl) keeps
+begin-then a b c owner job result m keeps = keeps-then a b c owner result (keeps-one a b owner (begin_of owner (Ok (Some job))) m refl refl) keeps
 
 pub begin-log : (a b : StoreState) (owner : ℕ) (job : Job) → IsStanding a → Makes a b owner (begin_of owner (Ok (Some job))) → b.log ≡ a.log
 begin-log a b owner job standing m = log-stays a b owner (begin_of owner (Ok (Some job))) standing m (λ n. refl)
@@ -107,7 +108,7 @@ begin-failed a b owner refusal standing m = record { log = log-stays a b owner (
 
 -- a freeze, and the flush of what it froze
 pub freeze-then : (a b c : StoreState) (owner least : ℕ) (result : Result (Unit {0}) Refusal) → Makes a b owner (action.Freeze least (Ok true)) → KeepsUp b c owner result → KeepsUp a c owner result
-freeze-then a b c owner least result m keeps = keeps-then a b c owner result (keeps-one a b owner (action.Freeze least (Ok true)) m refl) keeps
+freeze-then a b c owner least result m keeps = keeps-then a b c owner result (keeps-one a b owner (action.Freeze least (Ok true)) m refl refl) keeps
 
 pub flushed-behind : (a b c : StoreState) (owner least : ℕ) (result : Result (Unit {0}) Refusal) → 1 ≤ least → IsStanding a → Makes a b owner (action.Freeze least (Ok true)) → HasNoFrozen b c result → HasFlushed a c least result
 flushed-behind a b c owner least result some standing m behind =

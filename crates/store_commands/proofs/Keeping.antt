@@ -1,17 +1,22 @@
 -- The events of commands, put together from those of their calls.
-use Rattle.std.proofs.Common.{◌≡◌, inl, inr, ℕ, ◌<◌, ◌≤◌, Bool, true, false, if◌then◌else◌, List, [], ◌∷◌, ◌++◌, Some, Ok, Err, Result, refl, sym, ◌∙◌, ap, subst, append_assoc, append-nil}
+use Rattle.std.proofs.Common.{◌≡◌, inl, inr, ℕ, ◌<◌, ◌≤◌, Bool, true, false, if◌then◌else◌, List, [], ◌∷◌, ◌++◌, Option, Some, None, Ok, Err, Result, refl, sym, ◌∙◌, ap, subst, append_assoc, append-nil}
 use Rattle.std.specs.Prelude.{Contains}
+use Rattle.std.specs.Option.{option_to_list}
 use Rattle.std.proofs.lemmas.List.Elements.{Contains-push}
 use Rattle.table_model.specs.Commands.{TableCommand, on_table, flush, write, Outcome, quiet, refused}
 use Rattle.table_model.specs.declared.Why.{Why}
 use Rattle.wal_log.specs.declared.records.LogOp.{LogOp}
 use Rattle.image_model.specs.Recovered.{write_of}
-use Rattle.store_machine.specs.Commands.{is_upkeep, own, word_of, refusal_of, write_outcome, IsCall, looks, look_in, IsRefusedFlush, Does}
-use Rattle.store_machine.specs.Standing.{StoreState, Makes}
-use Rattle.store_machine.specs.Laws.Histories.{own-append}
+use Rattle.store_machine.specs.Commands.{is_upkeep, own, word_of, refusal_of, words_of, words, write_outcome, get_outcome, region_outcome, IsCall, looks, look_in, IsRefusedFlush, Does}
+use Rattle.store_machine.specs.Outcomes.{refused_word}
+use Rattle.store_machine.specs.Standing.{StoreState}
+use Rattle.store_machine.specs.Calls.{Makes}
+use Rattle.store_machine.specs.Laws.Histories.{own-append, words-append}
 use Rattle.store_machine.specs.declared.events.Action.{Action}
 use Rattle.store_machine.specs.declared.events.Action.TheVariants as action
 use Rattle.store_machine.specs.declared.events.Event.{Event}
+use Rattle.store_machine.specs.declared.events.Found.{Found}
+use Rattle.store_machine.specs.declared.events.Got.{Got}
 use Rattle.store_machine.specs.declared.events.Look.{Look}
 use Rattle.store_machine.specs.declared.events.Refusal.{Refusal}
 use Rattle.store_machine.specs.declared.events.Refusal.TheVariants.{Again}
@@ -26,6 +31,31 @@ upkeep-first e a es is upkeep = ap (λ (b : Bool). if b then own es else e ∷ o
 
 own-first : (e : Event) (a : Action) (es : List Event) → e.action ≡ a → is_upkeep a ≡ false → own (e ∷ es) ≡ e ∷ own es
 own-first e a es is upkeep = ap (λ (b : Bool). if b then own es else e ∷ own es) (ap is_upkeep is ∙ upkeep)
+
+-- the word of one event
+one-word : (e : Event) (a : Action) (ws : List Why) → e.action ≡ a → words_of (refusal_of a) ≡ ws → words (e ∷ []) ≡ ws
+one-word e a ws is of = append-nil (words_of (refusal_of e.action)) ∙ ap (λ (x : Action). words_of (refusal_of x)) is ∙ of
+
+no-word : (e : Event) (a : Action) → e.action ≡ a → refusal_of a ≡ None → words (e ∷ []) ≡ []
+no-word e a is none = one-word e a [] is (ap words_of none)
+
+-- the event of a command has the word of its outcome
+call-word : (a : Action) (c : TableCommand) (o : Outcome) → IsCall a c o → words_of (refusal_of a) ≡ refused_word o
+call-word (action.Write op (Ok answer)) c o (is, (reply, said, became)) = ap (λ (r : Result Wrote Why). refused_word (write_outcome op r)) (sym said) ∙ ap refused_word (sym became)
+call-word (action.Write op (Err refusal)) c o (is, (reply, (word, named, said), became)) =
+    ap option_to_list named ∙ ap (λ (r : Result Wrote Why). refused_word (write_outcome op r)) (sym said) ∙ ap refused_word (sym became)
+call-word (action.Get key (Ok answer)) c o (is, (reply, said, became)) = ap (λ (r : Result Got Why). refused_word (get_outcome r)) (sym said) ∙ ap refused_word (sym became)
+call-word (action.Get key (Err refusal)) c o (is, (reply, (word, named, said), became)) =
+    ap option_to_list named ∙ ap (λ (r : Result Got Why). refused_word (get_outcome r)) (sym said) ∙ ap refused_word (sym became)
+call-word (action.Count seq n) c o (is, became) = ap refused_word (sym became)
+call-word (action.Look look) c o call = absurd call
+call-word (action.Region kind rect (Ok answer)) c o (is, (reply, said, became)) = ap (λ (r : Result Found Why). refused_word (region_outcome r)) (sym said) ∙ ap refused_word (sym became)
+call-word (action.Region kind rect (Err refusal)) c o (is, (reply, (word, named, said), became)) =
+    ap option_to_list named ∙ ap (λ (r : Result Found Why). refused_word (region_outcome r)) (sym said) ∙ ap refused_word (sym became)
+call-word (action.Freeze least answer) c o call = absurd call
+call-word (action.Begin answer) c o call = absurd call
+call-word (action.JobWrite row answer) c o call = absurd call
+call-word (action.Install row answer) c o call = absurd call
 
 -- a command that made one event
 pub one-event : (old new : StoreState) (owner : ℕ) (a : Action) (c : TableCommand) (o : Outcome) → Makes old new owner a → IsCall a c o → IsOneEvent old new owner c o
@@ -48,19 +78,20 @@ own-call (action.Install row answer) c o call = absurd call
 own-last : (c : TableCommand) (o : Outcome) (upkeep : List Event) (e : Event) → own upkeep ≡ [] → IsCall e.action c o → own (upkeep ++ e ∷ []) ≡ e ∷ []
 own-last c o upkeep e none call = own-append upkeep (e ∷ []) ∙ (λ j. none j ++ own-first e e.action [] refl (own-call e.action c o call) j)
 
-pub done-one : (old new : StoreState) (owner : ℕ) (c : TableCommand) (o : Outcome) → IsOneEvent old new owner c o → HasDone old new owner (on_table c) o
+pub done-one : (old new : StoreState) (owner : ℕ) (c : TableCommand) (o : Outcome) → IsOneEvent old new owner c o → HasDone old new owner (on_table c) o None
 done-one old new owner c o one = record {
   events = one.event ∷ [];
   made = one.made;
   does = inl (record { event = one.event; only = own-last c o [] one.event refl one.call; call = one.call });
+  words_are = one-word one.event one.event.action (refused_word o) refl (call-word one.event.action c o one.call) ∙ sym (append-nil (refused_word o));
 }
 
 -- upkeep
 pub keeps-none : (s : StoreState) (owner : ℕ) → KeepsUp s s owner (Ok tt)
-keeps-none s owner = record { events = []; made = made-none s owner; none = refl; ends = tt }
+keeps-none s owner = record { events = []; made = made-none s owner; none = refl; ends = tt; words_are = refl }
 
-pub keeps-one : (old new : StoreState) (owner : ℕ) (a : Action) → Makes old new owner a → is_upkeep a ≡ true → KeepsUp old new owner (Ok tt)
-keeps-one old new owner a m is = record { events = m.event ∷ []; made = made-one old new owner a m; none = upkeep-first m.event a [] m.is.action_is is; ends = tt }
+pub keeps-one : (old new : StoreState) (owner : ℕ) (a : Action) → Makes old new owner a → is_upkeep a ≡ true → refusal_of a ≡ None → KeepsUp old new owner (Ok tt)
+keeps-one old new owner a m is calm = record { events = m.event ∷ []; made = made-one old new owner a m; none = upkeep-first m.event a [] m.is.action_is is; ends = tt; words_are = no-word m.event a m.is.action_is calm }
 
 pub keeps-refused : (old new : StoreState) (owner : ℕ) (a : Action) (refusal : Refusal) → Makes old new owner a → is_upkeep a ≡ true → refusal_of a ≡ Some refusal → IsFinal refusal → KeepsUp old new owner (Err refusal)
 keeps-refused old new owner a refusal m is of final = record {
@@ -68,6 +99,7 @@ keeps-refused old new owner a refusal m is of final = record {
   made = made-one old new owner a m;
   none = upkeep-first m.event a [] m.is.action_is is;
   ends = record { before = []; last = m.event; are = refl; refused = ap refusal_of m.is.action_is ∙ of; final = final };
+  words_are = one-word m.event a (words_of (Some refusal)) m.is.action_is (ap words_of of);
 }
 
 ends-behind : (es fs : List Event) (result : Result (Unit {0}) Refusal) → EndsAs result fs → EndsAs result (es ++ fs)
@@ -86,6 +118,7 @@ keeps-then a b c owner result one other = record {
   made = made-then a b c owner one.events other.events one.made other.made;
   none = own-append one.events other.events ∙ (λ j. one.none j ++ other.none j);
   ends = ends-behind one.events other.events result other.ends;
+  words_are = words-append one.events other.events ∙ (λ j. one.words_are j ++ other.words_are j);
 }
 
 -- the word of a refusal that ended upkeep
@@ -94,7 +127,7 @@ flush-refused refusal word es is none ends = record { none = none; before = ends
 
 -- upkeep that was refused before a write was made again
 pub again-refused : (a b : StoreState) (owner : ℕ) (op : LogOp) (refusal : Refusal) (word : Why) (result : Result Wrote Why) → KeepsUp a b owner (Err refusal) → word_of refusal ≡ Some word → result ≡ Err word → WritesAgain a b owner op result
-again-refused a b owner op refusal word result keeps is result_is = record { events = keeps.events; made = keeps.made; ends = inr (word, result_is, flush-refused refusal word keeps.events is keeps.none keeps.ends) }
+again-refused a b owner op refusal word result keeps is result_is = record { events = keeps.events; made = keeps.made; ends = inr (word, result_is, flush-refused refusal word keeps.events is keeps.none keeps.ends); words_are = keeps.words_are ∙ ap option_to_list is ∙ ap (λ (r : Result Wrote Why). refused_word (write_outcome op r)) (sym result_is) }
 
 -- upkeep, and the write that was then made
 pub again-made : (a b d : StoreState) (owner : ℕ) (op : LogOp) (w : Action) (result : Result Wrote Why) → KeepsUp a b owner (Ok tt) → Makes b d owner w → IsCall w (write (write_of op)) (write_outcome op result) → WritesAgain a d owner op result
@@ -108,20 +141,26 @@ again-made a b d owner op w result keeps m call = record {
     are = refl;
     call = subst (λ (x : Action). IsCall x (write (write_of op)) (write_outcome op result)) (sym m.is.action_is) call;
   });
+  words_are = words-append keeps.events (m.event ∷ [])
+      ∙ (λ j. keeps.words_are j ++ one-word m.event w (refused_word (write_outcome op result)) m.is.action_is (call-word w (write (write_of op)) (write_outcome op result) call) j);
 }
 
 -- a write that was tried once, and one that was to be made again
 pub tried-once : (old new : StoreState) (owner : ℕ) (op : LogOp) (a : Action) (result : Result Wrote Why) → Makes old new owner a → IsCall a (write (write_of op)) (write_outcome op result) → HasTried old new owner op result
 tried-once old new owner op a result m call =
     let one : IsOneEvent old new owner (write (write_of op)) (write_outcome op result) = one-event old new owner a (write (write_of op)) (write_outcome op result) m call in
-    record { events = one.event ∷ []; made = one.made; tries = inl (record { event = one.event; are = refl; call = one.call }) }
+    record { events = one.event ∷ []; made = one.made; tries = inl (record { event = one.event; are = refl; call = one.call }); words_are = one-word one.event one.event.action (refused_word (write_outcome op result)) refl (call-word one.event.action (write (write_of op)) (write_outcome op result) one.call) }
 
 pub tried-again : (a b d : StoreState) (owner : ℕ) (op : LogOp) (ops : ℕ) (result : Result Wrote Why) → Makes a b owner (action.Write op (Err (Again ops))) → WritesAgain b d owner op result → HasTried a d owner op result
 tried-again a b d owner op ops result m again = record {
   events = m.event ∷ again.events;
   made = made-then a b d owner (m.event ∷ []) again.events (made-one a b owner (action.Write op (Err (Again ops))) m) again.made;
   tries = inr (record { event = m.event; ops = ops; is = m.is.action_is; later = again.events; are = refl; ends = again.ends });
+  words_are = words-append (m.event ∷ []) again.events ∙ (λ j. no-word-again j ++ again.words_are j);
 }
+  where
+    no-word-again : words (m.event ∷ []) ≡ []
+    no-word-again = one-word m.event (action.Write op (Err (Again ops))) [] m.is.action_is refl
 
 -- events in which a write was tried are the command of this write
 does-again : (op : LogOp) (result : Result Wrote Why) (events : List Event) (again : TriesAgain op result events) → EndsAgain op result again.later → Does (on_table (write (write_of op))) (write_outcome op result) events
@@ -157,24 +196,27 @@ tries-do op result events (inl once) = inl (record {
 tries-do op result events (inr again) = does-again op result events again again.ends
 
 -- the upkeep behind a write
-pub behind-none : (s : StoreState) (owner flush_at ops : ℕ) → ops < flush_at → HasKeptBehind flush_at s s owner ops
-behind-none s owner flush_at ops few = record { events = []; made = made-none s owner; keeps = inl (few, refl) }
+pub behind-none : (s : StoreState) (owner flush_at ops : ℕ) → ops < flush_at → HasKeptBehind flush_at s s owner ops None
+behind-none s owner flush_at ops few = record { events = []; made = made-none s owner; keeps = inl (few, refl); words_are = refl }
 
-pub behind-kept : (a b : StoreState) (owner flush_at ops : ℕ) (result : Result (Unit {0}) Refusal) → flush_at ≤ ops → KeepsUp a b owner result → HasFlushed a b flush_at result → HasKeptBehind flush_at a b owner ops
-behind-kept a b owner flush_at ops (Ok x) many keeps flushed = record { events = keeps.events; made = keeps.made; keeps = inr (many, keeps.none, inl (flushed.frozen, flushed.few)) }
-behind-kept a b owner flush_at ops (Err refusal) many keeps flushed = record { events = keeps.events; made = keeps.made; keeps = inr (many, keeps.none, inr (refusal, keeps.ends)) }
+pub behind-kept : (a b : StoreState) (owner flush_at ops : ℕ) → flush_at ≤ ops → KeepsUp a b owner (Ok tt) → HasFlushed a b flush_at (Ok tt) → HasKeptBehind flush_at a b owner ops None
+behind-kept a b owner flush_at ops many keeps flushed = record { events = keeps.events; made = keeps.made; keeps = inr (many, keeps.none, inl (flushed.frozen, flushed.few)); words_are = keeps.words_are }
+
+pub behind-refused : (a b : StoreState) (owner flush_at ops : ℕ) (refusal : Refusal) (word : Why) → word_of refusal ≡ Some word → flush_at ≤ ops → KeepsUp a b owner (Err refusal) → HasKeptBehind flush_at a b owner ops (Some word)
+behind-refused a b owner flush_at ops refusal word is many keeps = record { events = keeps.events; made = keeps.made; keeps = inr (many, keeps.none, inr (refusal, keeps.ends)); words_are = keeps.words_are ∙ ap option_to_list is }
 
 own-behind : (s : StoreState) (flush_at ops : ℕ) (behind : List Event) → KeepsUpBehind flush_at s ops behind → own behind ≡ []
 own-behind s flush_at ops behind (inl (few, none)) = ap own none
 own-behind s flush_at ops behind (inr (many, none, ends)) = none
 
 -- a write that was answered, and the upkeep behind it
-pub done-behind : (a b d : StoreState) (owner flush_at : ℕ) (op : LogOp) (wrote : Wrote) → HasTried a b owner op (Ok wrote) → HasKeptBehind flush_at b d owner wrote.ops
-    → HasDone a d owner (on_table (write (write_of op))) (write_outcome op (Ok wrote))
-done-behind a b d owner flush_at op wrote tried kept = record {
+pub done-behind : (a b d : StoreState) (owner flush_at : ℕ) (op : LogOp) (wrote : Wrote) (word : Option Why) → HasTried a b owner op (Ok wrote) → HasKeptBehind flush_at b d owner wrote.ops word
+    → HasDone a d owner (on_table (write (write_of op))) (write_outcome op (Ok wrote)) word
+done-behind a b d owner flush_at op wrote word tried kept = record {
   events = tried.events ++ kept.events;
   made = made-then a b d owner tried.events kept.events tried.made kept.made;
   does = by_case (tries-do op (Ok wrote) tried.events tried.tries);
+  words_are = words-append tried.events kept.events ∙ (λ j. tried.words_are j ++ kept.words_are j);
 }
   where
     by_case : Does (on_table (write (write_of op))) (write_outcome op (Ok wrote)) tried.events → Does (on_table (write (write_of op))) (write_outcome op (Ok wrote)) (tried.events ++ kept.events)
@@ -185,8 +227,8 @@ done-behind a b d owner flush_at op wrote tried kept = record {
     })
     by_case (inr upkeep) = absurd (let no : ◌≡◌ {A = Outcome} (write_outcome op (Ok wrote)) (refused upkeep.word) = upkeep.outcome_is in cc)
 
-pub kept-behind : (a b d : StoreState) (owner flush_at : ℕ) (op : LogOp) (wrote : Wrote) → HasTried a b owner op (Ok wrote) → HasKeptBehind flush_at b d owner wrote.ops → WritesKept flush_at a d owner op (Ok wrote)
-kept-behind a b d owner flush_at op wrote tried kept = record {
+pub kept-behind : (a b d : StoreState) (owner flush_at : ℕ) (op : LogOp) (wrote : Wrote) (word : Option Why) → HasTried a b owner op (Ok wrote) → HasKeptBehind flush_at b d owner wrote.ops word → WritesKept flush_at a d owner op (Ok wrote)
+kept-behind a b d owner flush_at op wrote word tried kept = record {
   tried = tried.events;
   behind = kept.events;
   made = made-then a b d owner tried.events kept.events tried.made kept.made;
@@ -195,8 +237,8 @@ kept-behind a b d owner flush_at op wrote tried kept = record {
 }
 
 -- one that was refused
-pub done-refused : (a b : StoreState) (owner : ℕ) (op : LogOp) (why : Why) → HasTried a b owner op (Err why) → HasDone a b owner (on_table (write (write_of op))) (refused why)
-done-refused a b owner op why tried = record { events = tried.events; made = tried.made; does = tries-do op (Err why) tried.events tried.tries }
+pub done-refused : (a b : StoreState) (owner : ℕ) (op : LogOp) (why : Why) → HasTried a b owner op (Err why) → HasDone a b owner (on_table (write (write_of op))) (refused why) None
+done-refused a b owner op why tried = record { events = tried.events; made = tried.made; does = tries-do op (Err why) tried.events tried.tries; words_are = tried.words_are }
 
 pub kept-refused : (a b : StoreState) (owner flush_at : ℕ) (op : LogOp) (why : Why) → HasTried a b owner op (Err why) → WritesKept flush_at a b owner op (Err why)
 kept-refused a b owner flush_at op why tried = record {
@@ -216,7 +258,7 @@ looks-append [] fs = refl
 looks-append (e ∷ es) fs = ap (λ (l : List Look). look_in e.action ++ l) (looks-append es fs) ∙ sym (append_assoc (look_in e.action) (looks es) (looks fs))
 
 -- a flush that had nothing to do
-pub flush-none : (s : StoreState) (owner : ℕ) (look : Look) → Makes s s owner (action.Look look) → look.lsn ≤ look.placed → HasDone s s owner flush quiet
+pub flush-none : (s : StoreState) (owner : ℕ) (look : Look) → Makes s s owner (action.Look look) → look.lsn ≤ look.placed → HasDone s s owner flush quiet None
 flush-none s owner look m placed = record {
   events = m.event ∷ [];
   made = made-one s s owner (action.Look look) m;
@@ -229,19 +271,20 @@ flush-none s owner look m placed = record {
     is_told = Contains-push [] look;
     placed = placed;
   };
+  words_are = no-word m.event (action.Look look) m.is.action_is refl;
 }
 
 pub only-looks : (s : StoreState) (owner : ℕ) (look : Look) → Makes s s owner (action.Look look) → OnlyLooks s s owner
 only-looks s owner look m = record { event = m.event; made = made-one s s owner (action.Look look) m; look = look; is = m.is.action_is }
 
 -- one that was refused
-pub flush-ended : (a b : StoreState) (owner : ℕ) (look : Look) (refusal : Refusal) (word : Why) → Makes a a owner (action.Look look) → KeepsUp a b owner (Err refusal) → word_of refusal ≡ Some word → HasDone a b owner flush (refused word)
+pub flush-ended : (a b : StoreState) (owner : ℕ) (look : Look) (refusal : Refusal) (word : Why) → Makes a a owner (action.Look look) → KeepsUp a b owner (Err refusal) → word_of refusal ≡ Some word → HasDone a b owner flush (refused word) None
 flush-ended a b owner look refusal word m keeps is =
-    let all : KeepsUp a b owner (Err refusal) = keeps-then a a b owner (Err refusal) (keeps-one a a owner (action.Look look) m refl) keeps in
-    record { events = all.events; made = all.made; does = flush-refused refusal word all.events is all.none all.ends }
+    let all : KeepsUp a b owner (Err refusal) = keeps-then a a b owner (Err refusal) (keeps-one a a owner (action.Look look) m refl refl) keeps in
+    record { events = all.events; made = all.made; does = flush-refused refusal word all.events is all.none all.ends; words_are = all.words_are ∙ ap option_to_list is }
 
 -- one that was made
-pub flush-made : (a b : StoreState) (owner : ℕ) (first told : Look) → Makes a a owner (action.Look first) → KeepsUp a b owner (Ok tt) → Makes b b owner (action.Look told) → first.lsn ≤ told.placed → HasDone a b owner flush quiet
+pub flush-made : (a b : StoreState) (owner : ℕ) (first told : Look) → Makes a a owner (action.Look first) → KeepsUp a b owner (Ok tt) → Makes b b owner (action.Look told) → first.lsn ≤ told.placed → HasDone a b owner flush quiet None
 flush-made a b owner first told one keeps other placed = record {
   events = one.event ∷ (keeps.events ++ other.event ∷ []);
   made = made-then a a b owner (one.event ∷ []) (keeps.events ++ other.event ∷ []) (made-one a a owner (action.Look first) one)
@@ -258,6 +301,9 @@ flush-made a b owner first told one keeps other placed = record {
     is_told = told-last (looks keeps.events);
     placed = placed;
   };
+  words_are = words-append (one.event ∷ []) (keeps.events ++ other.event ∷ [])
+      ∙ (λ j. no-word one.event (action.Look first) one.is.action_is refl j ++ words-append keeps.events (other.event ∷ []) j)
+      ∙ (λ j. keeps.words_are j ++ no-word other.event (action.Look told) other.is.action_is refl j);
 }
   where
     told-last : (ls : List Look) → Contains (first ∷ (ls ++ told ∷ [])) told

@@ -7,17 +7,19 @@ use Rattle.wal_log.specs.declared.log.Log.{Log}
 use Rattle.wal_log.specs.declared.records.LogOp.{LogOp}
 use Rattle.wal_log.specs.declared.records.LogOp.TheVariants.{Put, Del}
 use Rattle.wal_log.specs.declared.places.TheConstants.{MOST_RECORDS}
-use Rattle.store_state.specs.Lists.{Lists, IsCut, placed_up_to}
-use Rattle.store_state.specs.declared.jobs.JobRow.{JobRow}
+use Rattle.store_state.specs.Lists.{Lists, placed_up_to}
+use Rattle.store_state.specs.EveryList.{IsCut}
 use Rattle.store_machine.specs.Commands.{is_upkeep, word_of}
 use Rattle.store_machine.specs.Machine.{Machine, does, after_logged}
 use Rattle.store_machine.specs.Needs.{Needs}
-use Rattle.store_machine.specs.Standing.{StoreState, IsReady, IsStanding, Makes}
+use Rattle.store_machine.specs.Calls.{IsReady, IsStanding, Makes}
+use Rattle.store_machine.specs.Standing.{StoreState}
 use Rattle.store_machine.specs.Laws.Stepping.{Steps, stepped, standing-adds}
 use Rattle.store_machine.specs.Laws.Steps.{Adds-none, Adds-then}
 use Rattle.store_machine.specs.declared.events.Action.{Action}
 use Rattle.store_machine.specs.declared.events.Action.TheVariants as action
 use Rattle.store_machine.specs.declared.events.Event.{Event}
+use Rattle.store_machine.specs.declared.events.OwnedJob.{OwnedJob}
 use Rattle.store_machine.specs.declared.events.Refusal.{Refusal}
 use Rattle.store_machine.specs.declared.events.Refusal.TheVariants.{Fault, Stopped, Full, Again, NoIndex, Damaged, OutOfMemory}
 use Rattle.store_commands.specs.Commands.{IsServing, Made}
@@ -119,39 +121,39 @@ freeze-final old new owner least refusal standing m =
     let steps : Steps old new (action.Freeze least (Err refusal)) = stepped old new owner (action.Freeze least (Err refusal)) standing m in
     has-word refusal (λ ops is. absurd (subst (λ (r : Refusal). Needs false steps.machine (action.Freeze least (Err r))) is steps.needs))
 
-pub page-final : (old new : StoreState) (owner : ℕ) (row : JobRow) (refusal : Refusal) → IsStanding old → Makes old new owner (action.JobWrite row (Err refusal)) → word_of refusal ≢ None
-page-final old new owner row refusal standing m =
-    let steps : Steps old new (action.JobWrite row (Err refusal)) = stepped old new owner (action.JobWrite row (Err refusal)) standing m in
-    has-word refusal (λ ops is. absurd (subst (λ (r : Refusal). Needs false steps.machine (action.JobWrite row (Err r))) is steps.needs).1)
+pub page-final : (old new : StoreState) (owner : ℕ) (job : OwnedJob) (refusal : Refusal) → IsStanding old → Makes old new owner (action.JobWrite job (Err refusal)) → word_of refusal ≢ None
+page-final old new owner job refusal standing m =
+    let steps : Steps old new (action.JobWrite job (Err refusal)) = stepped old new owner (action.JobWrite job (Err refusal)) standing m in
+    has-word refusal (λ ops is. absurd (subst (λ (r : Refusal). Needs false steps.machine (action.JobWrite job (Err r))) is steps.needs).1)
 
-pub install-final : (old new : StoreState) (owner : ℕ) (row : JobRow) (refusal : Refusal) → IsStanding old → Makes old new owner (action.Install row (Err refusal)) → word_of refusal ≢ None
-install-final old new owner row refusal standing m =
-    let steps : Steps old new (action.Install row (Err refusal)) = stepped old new owner (action.Install row (Err refusal)) standing m in
-    has-word refusal (λ ops is. absurd (subst (λ (r : Refusal). Needs false steps.machine (action.Install row (Err r))) is steps.needs).1)
+pub install-final : (old new : StoreState) (owner : ℕ) (job : OwnedJob) (refusal : Refusal) → IsStanding old → Makes old new owner (action.Install job (Err refusal)) → word_of refusal ≢ None
+install-final old new owner job refusal standing m =
+    let steps : Steps old new (action.Install job (Err refusal)) = stepped old new owner (action.Install job (Err refusal)) standing m in
+    has-word refusal (λ ops is. absurd (subst (λ (r : Refusal). Needs false steps.machine (action.Install job (Err r))) is steps.needs).1)
 
 -- a page or an install that was refused leaves a store that is stopped
-pub page-stops : (old new : StoreState) (owner : ℕ) (row : JobRow) (refusal : Refusal) → IsStanding old → Makes old new owner (action.JobWrite row (Err refusal)) → new.stopped ≢ None
-page-stops old new owner row refusal standing m =
-    let steps : Steps old new (action.JobWrite row (Err refusal)) = stepped old new owner (action.JobWrite row (Err refusal)) standing m in
+pub page-stops : (old new : StoreState) (owner : ℕ) (job : OwnedJob) (refusal : Refusal) → IsStanding old → Makes old new owner (action.JobWrite job (Err refusal)) → new.stopped ≢ None
+page-stops old new owner job refusal standing m =
+    let steps : Steps old new (action.JobWrite job (Err refusal)) = stepped old new owner (action.JobWrite job (Err refusal)) standing m in
     by_refusal refusal steps
   where
-    by_refusal : (r : Refusal) → Steps old new (action.JobWrite row (Err r)) → new.stopped ≢ None
-    by_refusal Fault steps = stopped-now old new (action.JobWrite row (Err Fault)) steps steps.stops
-    by_refusal (Stopped faults) steps = stopped-still old new (action.JobWrite row (Err (Stopped faults))) steps (λ going. let no : ◌≡◌ {A = Option ℕ} (Some faults) None = sym steps.needs.1 ∙ sym steps.has.stopped ∙ going in absurd cc)
+    by_refusal : (r : Refusal) → Steps old new (action.JobWrite job (Err r)) → new.stopped ≢ None
+    by_refusal Fault steps = stopped-now old new (action.JobWrite job (Err Fault)) steps steps.stops
+    by_refusal (Stopped faults) steps = stopped-still old new (action.JobWrite job (Err (Stopped faults))) steps (λ going. let no : ◌≡◌ {A = Option ℕ} (Some faults) None = sym steps.needs.1 ∙ sym steps.has.stopped ∙ going in absurd cc)
     by_refusal (Full need longest) steps = absurd steps.needs.1
     by_refusal (Again ops) steps = absurd steps.needs.1
     by_refusal NoIndex steps = absurd steps.needs.1
     by_refusal (Damaged page) steps = absurd steps.needs.1
     by_refusal OutOfMemory steps = absurd steps.needs.1
 
-pub install-stops : (old new : StoreState) (owner : ℕ) (row : JobRow) (refusal : Refusal) → IsStanding old → Makes old new owner (action.Install row (Err refusal)) → new.stopped ≢ None
-install-stops old new owner row refusal standing m =
-    let steps : Steps old new (action.Install row (Err refusal)) = stepped old new owner (action.Install row (Err refusal)) standing m in
+pub install-stops : (old new : StoreState) (owner : ℕ) (job : OwnedJob) (refusal : Refusal) → IsStanding old → Makes old new owner (action.Install job (Err refusal)) → new.stopped ≢ None
+install-stops old new owner job refusal standing m =
+    let steps : Steps old new (action.Install job (Err refusal)) = stepped old new owner (action.Install job (Err refusal)) standing m in
     by_refusal refusal steps
   where
-    by_refusal : (r : Refusal) → Steps old new (action.Install row (Err r)) → new.stopped ≢ None
-    by_refusal Fault steps = stopped-now old new (action.Install row (Err Fault)) steps steps.stops
-    by_refusal (Stopped faults) steps = stopped-still old new (action.Install row (Err (Stopped faults))) steps (λ going. let no : ◌≡◌ {A = Option ℕ} (Some faults) None = sym steps.needs.1 ∙ sym steps.has.stopped ∙ going in absurd cc)
+    by_refusal : (r : Refusal) → Steps old new (action.Install job (Err r)) → new.stopped ≢ None
+    by_refusal Fault steps = stopped-now old new (action.Install job (Err Fault)) steps steps.stops
+    by_refusal (Stopped faults) steps = stopped-still old new (action.Install job (Err (Stopped faults))) steps (λ going. let no : ◌≡◌ {A = Option ℕ} (Some faults) None = sym steps.needs.1 ∙ sym steps.has.stopped ∙ going in absurd cc)
     by_refusal (Full need longest) steps = absurd steps.needs.1
     by_refusal (Again ops) steps = absurd steps.needs.1
     by_refusal NoIndex steps = absurd steps.needs.1

@@ -1,12 +1,15 @@
 -- What a command of an owner does to a store.
-use Rattle.std.specs.Prelude.{◌≡◌, ◌≢◌, ◌⊎◌, ℕ, ◌<◌, ◌≤◌, List, [], ◌∷◌, ◌++◌, None, Some, All, Result, Ok, Err}
+use Rattle.std.specs.Prelude.{◌≡◌, ◌≢◌, ◌⊎◌, ℕ, ◌<◌, ◌≤◌, List, [], ◌∷◌, ◌++◌, Option, None, Some, All, Result, Ok, Err}
+use Rattle.std.specs.Option.{option_to_list}
 use Rattle.image_model.specs.Recovered.{write_of}
 use Rattle.table_model.specs.Commands.{TableCommand, write, Command, Outcome}
 use Rattle.table_model.specs.declared.Why.{Why}
 use Rattle.wal_log.specs.declared.records.LogOp.{LogOp}
 use Rattle.store_core.specs.declared.region.RegionRows.{RegionRows}
-use Rattle.store_machine.specs.Commands.{own, word_of, refusal_of, write_outcome, IsCall, IsRefusedFlush, Does}
-use Rattle.store_machine.specs.Standing.{StoreState, IsReady, IsStanding, Adds}
+use Rattle.store_machine.specs.Commands.{own, word_of, refusal_of, words, write_outcome, IsCall, IsRefusedFlush, Does}
+use Rattle.store_machine.specs.Outcomes.{refused_word}
+use Rattle.store_machine.specs.Calls.{IsReady, IsStanding, Adds}
+use Rattle.store_machine.specs.Standing.{StoreState}
 use Rattle.store_machine.specs.declared.events.Action.TheVariants as action
 use Rattle.store_machine.specs.declared.events.Event.{Event}
 use Rattle.store_machine.specs.declared.events.Found.{Found}
@@ -26,11 +29,13 @@ pub record Made (old new : StoreState) (owner : ℕ) (events : List Event) : Typ
   pub adds : Adds old new events
   pub owned : All (λ e. e.owner ≡ Some owner) events
 
--- the events of a command were made by this owner, and this became of it
-pub record HasDone (old new : StoreState) (owner : ℕ) (command : Command) (outcome : Outcome) : Type 0 where
+-- The events of a command were made by this owner, and this became of it. The words with which they were refused are that of its
+-- outcome, and that of the upkeep behind it.
+pub record HasDone (old new : StoreState) (owner : ℕ) (command : Command) (outcome : Outcome) (upkeep : Option Why) : Type 0 where
   pub events : List Event
   pub made : Made old new owner events
   pub does : Does command outcome events
+  pub words_are : words events ≡ refused_word outcome ++ option_to_list upkeep
 
 -- what a region answered
 abbrev pub rows_found : Result RegionRows Why → Result Found Why

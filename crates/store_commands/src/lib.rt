@@ -6,5 +6,5 @@ mod upkeep;
 mod writes;
 
 pub use answers::{count, get, region};
-pub use upkeep::{FLUSH_AT, flush};
-pub use writes::write;
+pub use upkeep::{FLUSH_AT, flush, upkeep_is_due_at_1024};
+pub use writes::{Written, write};

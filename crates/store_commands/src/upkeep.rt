@@ -1,10 +1,12 @@
 // Upkeep: what is only in memory and in the log goes into components on the device.
 ghost use Rattle.std.specs.Prelude.{◌≡◌, ◌-◌, ◌≤◌, None, Some, Ok};
 ghost use Rattle.table_model.specs.Commands.{flush};
-ghost use Rattle.store_state.specs.Lists.{IsJobOf, placed_up_to};
+ghost use Rattle.store_state.specs.Lists.{placed_up_to};
+ghost use Rattle.store_state.specs.OwnJob.{IsJobOf};
 ghost use Rattle.store_core.specs.Stores.{state_of};
 ghost use Rattle.store_machine.specs.Commands.{word_of, flush_outcome};
-ghost use Rattle.store_machine.specs.Standing.{IsReady, IsStanding};
+ghost use Rattle.store_machine.specs.Calls.{IsReady, IsStanding};
+ghost use Rattle.store_commands.specs.declared.upkeep.TheConstants.{FLUSH_AT};
 ghost use Rattle.store_commands.specs.Commands.{IsServing, HasDone, OnlyLooks, IsFinal};
 ghost use Rattle.store_commands.specs.Upkeep.{KeepsUp, HasWritten, HasNoFrozen, HasFlushed};
 
@@ -17,6 +19,11 @@ use table_model::Why;
 
 /// When so many writes are only in memory and in the log, they are flushed.
 pub const FLUSH_AT: u32 = 1_024;
+
+/// A law: upkeep is due once 1,024 writes are only in memory and in the log.
+pub fn upkeep_is_due_at_1024()
+    ensures { FLUSH_AT ≡ 1024 }
+{}
 
 /// The word of a refusal after which the call isn't made again.
 pub(crate) fn word_of(refusal: Refusal) -> Why
@@ -137,7 +144,7 @@ pub(crate) fn keep_up<D: Device>(
 /// fails, which stops the store.
 pub fn flush<D: Device>(alloc: Global, store: &mut Store<D>, owner: u64) -> Result<(), Why>
     requires serving { IsServing (state_of D.pages D.clock D.fault_count D.story store.old) }
-    ensures done { HasDone (state_of D.pages D.clock D.fault_count D.story store.old) (state_of D.pages D.clock D.fault_count D.story store.new) owner flush (flush_outcome result) }
+    ensures done { HasDone (state_of D.pages D.clock D.fault_count D.story store.old) (state_of D.pages D.clock D.fault_count D.story store.new) owner flush (flush_outcome result) None }
     ensures idle { store.old.log.next_lsn - 1 ≤ placed_up_to store.old.state.0.components → (result ≡ Ok tt) × OnlyLooks (state_of D.pages D.clock D.fault_count D.story store.old) (state_of D.pages D.clock D.fault_count D.story store.new) owner }
     ensures serving { IsServing (state_of D.pages D.clock D.fault_count D.story store.new) }
 {

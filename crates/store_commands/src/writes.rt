@@ -53,39 +53,56 @@ fn write_with_room<D: Device>(
     }
 }
 
-// Makes the upkeep that is due where so many writes wait. A write before it is answered, whatever becomes of it.
-fn keep_up_behind<D: Device>(alloc: Global, store: &mut Store<D>, owner: u64, ops: u32)
+// Makes the upkeep that is due where so many writes wait, and gives the word with which it was refused. A write before it is
+// answered, whatever becomes of it.
+fn keep_up_behind<D: Device>(
+    alloc: Global,
+    store: &mut Store<D>,
+    owner: u64,
+    ops: u32,
+) -> Option<Why>
     requires serving { IsServing (state_of D.pages D.clock D.fault_count D.story store.old) }
-    ensures kept { HasKeptBehind FLUSH_AT (state_of D.pages D.clock D.fault_count D.story store.old) (state_of D.pages D.clock D.fault_count D.story store.new) owner ops }
+    ensures kept { HasKeptBehind FLUSH_AT (state_of D.pages D.clock D.fault_count D.story store.old) (state_of D.pages D.clock D.fault_count D.story store.new) owner ops result }
     ensures serving { IsServing (state_of D.pages D.clock D.fault_count D.story store.new) }
 {
     if ops < FLUSH_AT {
-        return;
+        return None;
     }
-    let _ = keep_up(alloc, store, owner, FLUSH_AT);
+    match keep_up(alloc, store, owner, FLUSH_AT) {
+        Ok(()) => None,
+        Err(refusal) => Some(word_of(refusal)),
+    }
+}
+
+/// What became of a write, and the word with which the upkeep behind it was refused, if it was.
+#[derive(Clone, Copy)]
+pub struct Written {
+    pub answer: Result<Wrote, Why>,
+    pub upkeep: Option<Why>,
 }
 
 /// Lays a row at its key, or takes away what is there.
 ///
 /// An answered write is in each image of each crash from its ack on. Where it leaves 1,024 writes or more that are only in
-/// memory and in the log, they are flushed; what that is refused for changes no answer. The refusals are those of the write,
-/// or of the flush that has to make room for it.
-pub fn write<D: Device>(
-    alloc: Global,
-    store: &mut Store<D>,
-    owner: u64,
-    op: &WriteOp,
-) -> Result<Wrote, Why>
+/// memory and in the log, they are flushed; what that is refused for changes no answer, and is told beside it. The refusals are
+/// those of the write, or of the flush that has to make room for it.
+pub fn write<D: Device>(alloc: Global, store: &mut Store<D>, owner: u64, op: &WriteOp) -> Written
     requires serving { IsServing (state_of D.pages D.clock D.fault_count D.story store.old) }
-    ensures done { HasDone (state_of D.pages D.clock D.fault_count D.story store.old) (state_of D.pages D.clock D.fault_count D.story store.new) owner (on_table (write (write_of op.now))) (write_outcome op.now result) }
-    ensures kept { WritesKept FLUSH_AT (state_of D.pages D.clock D.fault_count D.story store.old) (state_of D.pages D.clock D.fault_count D.story store.new) owner op.now result }
+    ensures done { HasDone (state_of D.pages D.clock D.fault_count D.story store.old) (state_of D.pages D.clock D.fault_count D.story store.new) owner (on_table (write (write_of op.now))) (write_outcome op.now result.answer) result.upkeep }
+    ensures kept { WritesKept 1024 (state_of D.pages D.clock D.fault_count D.story store.old) (state_of D.pages D.clock D.fault_count D.story store.new) owner op.now result.answer }
     ensures serving { IsServing (state_of D.pages D.clock D.fault_count D.story store.new) }
 {
     match write_with_room(alloc, store, owner, op) {
         Ok(wrote) => {
-            keep_up_behind(alloc, store, owner, wrote.ops);
-            Ok(wrote)
+            let upkeep = keep_up_behind(alloc, store, owner, wrote.ops);
+            Written {
+                answer: Ok(wrote),
+                upkeep,
+            }
         }
-        Err(why) => Err(why),
+        Err(why) => Written {
+            answer: Err(why),
+            upkeep: None,
+        },
     }
 }

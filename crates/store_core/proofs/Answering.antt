@@ -6,13 +6,17 @@ use Rattle.geo_base.specs.declared.points.Row.{Row}
 use Rattle.page_codec.specs.declared.faults.PageFault.{PageFault}
 use Rattle.page_codec.specs.declared.faults.PageFault.TheVariants as page
 use Rattle.primary_ix.specs.Wanted.{table_row}
+use Rattle.primary_ix.specs.declared.rows.PrimRow.{PrimRow}
 use Rattle.table_model.specs.Table.{Table}
 use Rattle.wal_log.specs.declared.log.Log.{Log}
 use Rattle.store_state.specs.Lists.{Lists, placed_up_to}
 use Rattle.tree_shape.specs.Asked.{reads_of}
 use Rattle.device_pages.specs.Asked.{calls_of}
-use Rattle.kept_state.specs.Reading.{IsLegible, HasRead, IsOnlyRead}
-use Rattle.store_machine.specs.Standing.{DeviceState, StoreState, Makes}
+use Rattle.kept_state.specs.Reading.{IsLegible}
+use Rattle.kept_state.specs.OnlyRead.{HasRead, IsOnlyRead}
+use Rattle.store_machine.specs.Calls.{Makes}
+use Rattle.store_machine.specs.Standing.{StoreState}
+use Rattle.store_machine.specs.Devices.{DeviceState}
 use Rattle.store_machine.specs.declared.events.Look.{Look}
 use Rattle.store_machine.specs.declared.events.Refusal.TheVariants.{Fault, Damaged}
 use Rattle.store_machine.specs.Laws.Events.{still-event, stays-go_on, reads-event}
@@ -41,7 +45,7 @@ counted old owner rows is =
 -- what is said of one read of a row
 pub record ReadsRow (old : StoreState) (now : DeviceState) (key : ℕ) (result : Result (Option Row) PageFault) (pages : List ℕ) : Type 0 where
   pub reads : HasOnlyRead old now (way_to key) result pages
-  pub row : (table : Table) → WhereTold old.device.story (λ s. IsLegible table old.lists s → MatchResult result (λ row. row ≡ table_row table key) (λ fault. fault ≡ page.Failed))
+  pub row : (table : Table) (disk : List (List PrimRow)) → WhereTold old.device.story (λ s. IsLegible table disk old.lists s → MatchResult result (λ row. row ≡ table_row table key) (λ fault. fault ≡ page.Failed))
   pub time : old.device.clock ≤ now.clock
 
 -- what a call that reads a row shows
@@ -49,7 +53,7 @@ pub reads-row : (old : StoreState) (now : DeviceState) (key : ℕ) (result : Res
     → GoesOnWay old (way_to key) result pages
     → WhereTold old.device.story (λ s. IsOnlyRead old.device.pages old.lists s now.story) → now.pages ≡ old.device.pages → old.device.faults ≤ now.faults
     → ((s : Story) → now.story ≡ Some s → now.clock ≡ clock_of s)
-    → ((table : Table) → WhereTold old.device.story (λ s. IsLegible table old.lists s → MatchResult result (λ row. row ≡ table_row table key) (λ fault. fault ≡ page.Failed)))
+    → ((table : Table) (disk : List (List PrimRow)) → WhereTold old.device.story (λ s. IsLegible table disk old.lists s → MatchResult result (λ row. row ≡ table_row table key) (λ fault. fault ≡ page.Failed)))
     → ReadsRow old now key result pages
 reads-row old now key result pages read by stays same_pages later clock_told row = record {
   reads = record { read = read; by = by; stays = stays; same_pages = same_pages; later = later; clock_told = clock_told };
@@ -62,7 +66,7 @@ pub got : (old : StoreState) (now : DeviceState) (owner key : ℕ) (row : Option
 got old now owner key row pages is =
     reads-event old now (way_to key) (Ok row) pages (next_count old.seq) owner (Get key (Ok (record { seq = old.seq; row = row }))) is.reads
     (record {
-      needs = λ known o m has tells. record { seq = has.seq; row = λ is_known. let t : _ = tells is_known in is.row m.table t.now t.told t.legible };
+      needs = λ known o m has tells. record { seq = has.seq; row = λ is_known. let t : _ = tells is_known in is.row m.table m.disk t.now t.told t.legible };
       owned = tt;
       acks = tt;
       stops = refl;
@@ -89,7 +93,7 @@ got-refused old now owner key page.Failed pages is rose memory =
 got-refused old now owner key (page.Damaged n) pages is rose memory =
     reads-event old now (way_to key) (Err (page.Damaged n)) pages old.seq owner (Get key (Err (Damaged n))) is.reads
     (record {
-      needs = λ known o m has tells. known-sound known (λ is_known. let t : _ = tells is_known in let e : page.Damaged n ≡ page.Failed = is.row m.table t.now t.told t.legible in cc);
+      needs = λ known o m has tells. known-sound known (λ is_known. let t : _ = tells is_known in let e : page.Damaged n ≡ page.Failed = is.row m.table m.disk t.now t.told t.legible in cc);
       owned = tt;
       acks = tt;
       stops = refl;

@@ -6,15 +6,19 @@ use Rattle.std.specs.declared.cmp.Ordering.{Ordering}
 use Rattle.std.specs.declared.cmp.Ordering.TheVariants.{Less, Equal, Greater}
 use Rattle.std.specs.Cmp.{nat_cmp_total, eq_by_cmp_equiv}
 use Rattle.std.specs.FinMap.{get, remove, nat_cmp-IsAntisymmetric, same_map, get-remove, get_tied}
-use Rattle.dev_model.specs.Story.{Calls, Story, WhereTold, all_noted}
+use Rattle.dev_model.specs.Story.{Calls, Story, WhereTold}
+use Rattle.dev_model.specs.Doing.{all_noted}
 use Rattle.geo_base.specs.declared.points.Row.{Row}
 use Rattle.table_model.specs.Table.{Table, Place, row_at}
 use Rattle.primary_ix.specs.Wanted.{table_row}
 use Rattle.tree_shape.specs.Asked.{reads_of}
 use Rattle.device_pages.specs.Asked.{calls_of}
+use Rattle.primary_ix.specs.declared.rows.PrimRow.{PrimRow}
 use Rattle.store_machine.specs.Needs.{place_in}
-use Rattle.store_machine.specs.Standing.{DeviceState, StoreState}
-use Rattle.kept_state.specs.Reading.{IsLegible, IsPageIn}
+use Rattle.store_machine.specs.Standing.{StoreState}
+use Rattle.store_machine.specs.Devices.{DeviceState}
+use Rattle.kept_state.specs.Reading.{IsLegible}
+use Rattle.kept_state.specs.OnlyRead.{IsPageIn}
 use Rattle.kept_state.specs.Laws.ReadingStays.{legible-before_reads}
 use Rattle.store_machine.specs.Runs.{way_to}
 use Rattle.store_machine.specs.Laws.Reading.{HasOnlyRead}
@@ -65,13 +69,13 @@ never-told (call ∷ calls) = never-told calls
 
 -- a row that was read is also that of a table which is legible behind the reads
 pub row-behind_reads : (old : StoreState) (now : DeviceState) (key : ℕ) (row : Option Row) (pages : List ℕ) → HasOnlyRead {X = Option Row} old now (way_to key) (Ok row) pages
-    → ((table : Table) → WhereTold old.device.story (λ s. IsLegible table old.lists s → row ≡ table_row table key))
-    → (table : Table) → WhereTold now.story (λ t. IsLegible table old.lists t → row ≡ table_row table key)
-row-behind_reads old now key row pages reads found table t told legible = by_story old.device.story refl
+    → ((table : Table) (disk : List (List PrimRow)) → WhereTold old.device.story (λ s. IsLegible table disk old.lists s → row ≡ table_row table key))
+    → (table : Table) (disk : List (List PrimRow)) → WhereTold now.story (λ t. IsLegible table disk old.lists t → row ≡ table_row table key)
+row-behind_reads old now key row pages reads found table disk t told legible = by_story old.device.story refl
   where
     by_story : (story : Option Story) → old.device.story ≡ story → row ≡ table_row table key
     by_story None is =
         let calls : Calls = calls_of old.device.clock (reads_of {X = Option Row} (Ok row) pages) in
         let none : now.story ≡ None = reads.read.went.asked_for.told ∙ ap (all_noted calls) is ∙ never-told calls in
         absurd (let never : ◌≡◌ {A = Option Story} None (Some t) = sym none ∙ told in cc)
-    by_story (Some s) is = found table s is (legible-before_reads (IsPageIn old.lists) table old.lists s t now.story (reads.stays s is).reads told legible)
+    by_story (Some s) is = found table disk s is (legible-before_reads (IsPageIn old.lists) table disk old.lists s t now.story (reads.stays s is).reads told legible)

@@ -1,5 +1,6 @@
 mod Answering
 mod Found
 mod Regions
+mod Tested
 mod WorkEvents
 mod WriteEvents

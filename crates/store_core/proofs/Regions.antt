@@ -8,11 +8,15 @@ use Rattle.geo_base.specs.declared.points.IndexKind.{IndexKind}
 use Rattle.geo_base.specs.declared.points.Row.{Row}
 use Rattle.page_codec.specs.declared.faults.PageFault.{PageFault}
 use Rattle.page_codec.specs.declared.faults.PageFault.TheVariants as page
-use Rattle.primary_ix.specs.Wanted.{matter_row, table_rows}
+use Rattle.primary_ix.specs.Wanted.{matter_row}
+use Rattle.primary_ix.specs.Records.{table_rows}
 use Rattle.primary_ix.specs.declared.rows.PrimRow.{PrimRow}
 use Rattle.table_model.specs.Table.{Table, rows_of, rows_inside}
-use Rattle.kept_state.specs.Reading.{HasRead, IsLegible, IsOnlyRead}
-use Rattle.store_machine.specs.Standing.{DeviceState, StoreState, Makes}
+use Rattle.kept_state.specs.Reading.{IsLegible}
+use Rattle.kept_state.specs.OnlyRead.{HasRead, IsOnlyRead}
+use Rattle.store_machine.specs.Calls.{Makes}
+use Rattle.store_machine.specs.Standing.{StoreState}
+use Rattle.store_machine.specs.Devices.{DeviceState}
 use Rattle.store_machine.specs.declared.events.Found.{Found}
 use Rattle.store_machine.specs.declared.events.Refusal.{Refusal}
 use Rattle.store_machine.specs.declared.events.Refusal.TheVariants.{Fault, NoIndex, Damaged, OutOfMemory}
@@ -49,7 +53,7 @@ no-index old owner kind rect none =
     (stays-go_on old old.seq)
 
 pub found : {X : Type 0} (old new : StoreState) (now : DeviceState) (x : X) (pages : List ℕ) (owner : ℕ) (kind : IndexKind) (rect : Corners) (rows : List PrimRow) (answer : Found)
-    → HasOnlyRead old now way_to_all (Ok x) pages → ((table : Table) → WhereTold old.device.story (λ s. IsLegible table old.lists s → rows ≡ table_rows table))
+    → HasOnlyRead old now way_to_all (Ok x) pages → ((table : Table) (disk : List (List PrimRow)) → WhereTold old.device.story (λ s. IsLegible table disk old.lists s → rows ≡ table_rows table))
     → has_index old.declared kind ≡ true → answer.seq ≡ old.seq → answer.rows ≡ rows_inside rect (records_in rows) → new ≡ record old { device = now; seq = next_count old.seq }
     → Makes old new owner (Region kind rect (Ok answer))
 found old new now x pages owner kind rect rows answer reads are declared seq inside new_is =
@@ -60,7 +64,7 @@ found old new now x pages owner kind rect rows answer reads are declared seq ins
         declared = ap (λ (d : ℕ). has_index d kind) (sym has.declared) ∙ declared;
         seq = seq ∙ has.seq;
         rows = λ is_known. let t : _ = tells is_known in
-            inside ∙ ap (λ (rs : List PrimRow). rows_inside rect (records_in rs)) (are m.table t.now t.told t.legible) ∙ ap (rows_inside rect) (records-back (rows_of m.table));
+            inside ∙ ap (λ (rs : List PrimRow). rows_inside rect (records_in rs)) (are m.table m.disk t.now t.told t.legible) ∙ ap (rows_inside rect) (records-back (rows_of m.table));
       };
       owned = tt;
       acks = tt;
@@ -90,12 +94,12 @@ no-memory old now result pages owner kind rect reads given declared =
     (sym given) (λ m calls is. AreReads-weaker m way_to_all (IsPartBy result) IsFirstOf calls (λ some all part. first-of result some all given part) is)
 
 pub not-read : {X : Type 0} (old : StoreState) (now : DeviceState) (fault : PageFault) (refusal : Refusal) (pages : List ℕ) (owner : ℕ) (kind : IndexKind) (rect : Corners) → HasOnlyRead {X = X} old now way_to_all (Err fault) pages
-    → ((table : Table) → WhereTold old.device.story (λ s. IsLegible table old.lists s → (n : ℕ) → fault ≡ page.Damaged n → ⊥)) → (fault ≡ page.Failed → Rose old.device.faults now.faults)
+    → ((table : Table) (disk : List (List PrimRow)) → WhereTold old.device.story (λ s. IsLegible table disk old.lists s → (n : ℕ) → fault ≡ page.Damaged n → ⊥)) → (fault ≡ page.Failed → Rose old.device.faults now.faults)
     → has_index old.declared kind ≡ true → refusal ≡ refusal_of fault → Makes old (record old { device = now }) owner (Region kind rect (Err refusal))
 not-read {X} old now fault refusal pages owner kind rect reads sound rose declared is =
     subst (λ (r : Refusal). Makes old (record old { device = now }) owner (Region kind rect (Err r))) (sym is) (by_fault fault reads sound rose)
   where
-    by_fault : (f : PageFault) → HasOnlyRead {X = X} old now way_to_all (Err f) pages → ((table : Table) → WhereTold old.device.story (λ s. IsLegible table old.lists s → (n : ℕ) → f ≡ page.Damaged n → ⊥))
+    by_fault : (f : PageFault) → HasOnlyRead {X = X} old now way_to_all (Err f) pages → ((table : Table) (disk : List (List PrimRow)) → WhereTold old.device.story (λ s. IsLegible table disk old.lists s → (n : ℕ) → f ≡ page.Damaged n → ⊥))
         → (f ≡ page.Failed → Rose old.device.faults now.faults) → Makes old (record old { device = now }) owner (Region kind rect (Err (refusal_of f)))
     by_fault page.Failed reads_it never rises =
         reads-event old now way_to_all (Err page.Failed) pages old.seq owner (Region kind rect (Err Fault)) reads_it
@@ -113,7 +117,7 @@ not-read {X} old now fault refusal pages owner kind rect reads sound rose declar
     by_fault (page.Damaged n) reads_it never rises =
         reads-event old now way_to_all (Err (page.Damaged n)) pages old.seq owner (Region kind rect (Err (Damaged n))) reads_it
         (record {
-          needs = λ known o m has tells. (known-sound known (λ is_known. let t : _ = tells is_known in never m.table t.now t.told t.legible n refl), ap (λ (d : ℕ). has_index d kind) (sym has.declared) ∙ declared);
+          needs = λ known o m has tells. (known-sound known (λ is_known. let t : _ = tells is_known in never m.table m.disk t.now t.told t.legible n refl), ap (λ (d : ℕ). has_index d kind) (sym has.declared) ∙ declared);
           owned = tt;
           acks = tt;
           stops = refl;

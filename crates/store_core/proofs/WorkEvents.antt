@@ -3,7 +3,8 @@ use Rattle.std.proofs.Common.{◌≡◌, ◌≢◌, ◌⊎◌, inl, inr, ℕ, su
 use Rattle.std.proofs.lemmas.List.{length-append}
 use Rattle.std.proofs.lemmas.Option.{same_Some}
 use Rattle.dev_model.specs.Counts.{Rose}
-use Rattle.dev_model.specs.Story.{Calls, HasStoppedIn, Story, WhereTold, Write, all_noted, clock_of}
+use Rattle.dev_model.specs.Story.{Calls, Story, WhereTold, Write, clock_of}
+use Rattle.dev_model.specs.Doing.{HasStoppedIn, all_noted}
 use Rattle.dev_model.specs.DeviceCalls.{made_at, ok_calls}
 use Rattle.dev_model.specs.declared.calls.DeviceCall.{DeviceCall}
 use Rattle.dev_model.specs.declared.calls.DeviceAct.TheVariants.{WriteAt}
@@ -11,19 +12,27 @@ use Rattle.page_codec.specs.declared.pages.TheConstants.{PAGE_BYTES}
 use Rattle.table_model.specs.Table.{Table}
 use Rattle.wal_log.specs.State.{turn_calls}
 use Rattle.wal_log.specs.declared.log.Log.{Log}
-use Rattle.comp_dir.specs.State.{install_calls}
-use Rattle.build_job.specs.Jobs.{Job, described, steps_left}
-use Rattle.store_machine.specs.Standing.{DeviceState, StoreState, Has, Makes, Tells}
+use Rattle.comp_dir.specs.Resting.{install_calls}
+use Rattle.build_job.specs.Jobs.{Job, described}
+use Rattle.build_job.specs.Steps.{steps_left}
+use Rattle.store_machine.specs.Calls.{Makes}
+use Rattle.store_machine.specs.Standing.{StoreState, Has, Tells}
+use Rattle.store_machine.specs.Devices.{DeviceState}
+use Rattle.store_machine.specs.declared.events.OwnedJob.{OwnedJob}
 use Rattle.store_machine.specs.declared.events.Refusal.TheVariants.{Fault, Stopped}
-use Rattle.store_state.specs.Beginning.{Begins, IsRefused, MayBegin, fresh}
-use Rattle.store_state.specs.Lists.{IsJobOf, IsLists, IsPlanned, IsPlannedIf, Lists, job_of}
+use Rattle.store_state.specs.Beginning.{IsRefused, MayBegin, fresh}
+use Rattle.store_state.specs.Begun.{Begins}
+use Rattle.primary_ix.specs.declared.rows.PrimRow.{PrimRow}
+use Rattle.store_state.specs.Lists.{Lists, job_of}
+use Rattle.store_state.specs.OwnJob.{IsJobOf}
+use Rattle.store_state.specs.EveryList.{IsLists, IsPlanned, IsPlannedIf}
 use Rattle.store_state.specs.Steps.{begun, frozen_at, installed, one_written}
 use Rattle.store_state.specs.declared.faults.BeginFault.{BeginFault}
 use Rattle.store_state.specs.declared.faults.BeginFault.TheVariants as begin
 use Rattle.store_state.specs.declared.jobs.JobRow.{JobRow}
 use Rattle.kept_state.specs.Keeping.{IsKept}
 use Rattle.kept_state.specs.Reading.{IsLegible}
-use Rattle.store_machine.specs.Machine.{Machine, Opening, does, log_turned}
+use Rattle.store_machine.specs.Machine.{Machine, Opening, does, log_turned, row_of}
 use Rattle.store_machine.specs.Needs.{IsWriting, IsWrittenOut, MayFreeze, Needs, RefusesBegin}
 use Rattle.store_machine.specs.Runs.{Acknowledges, IsFront, IsOwned, MakesCalls, Stops, is_fault}
 use Rattle.store_machine.specs.Laws.Events.{Owes, still-event, stays-go_on, works-event, fails-event}
@@ -131,11 +140,12 @@ not-frozen s owner least going why =
 pub froze : (old : StoreState) (now : DeviceState) (log : Log) (lists : Lists) (owner least : ℕ) → IsStep old now → MayTurn old least
     → now.story ≡ all_noted (turn_calls old.log) old.device.story
     → ((table : Table) → WhereTold old.device.story (λ s. IsKept old.device.pages old.log table old.lists s → WhereTold now.story (IsKept old.device.pages log table lists)))
+    → ((table : Table) (disk : List (List PrimRow)) → WhereTold old.device.story (λ s. IsLegible table disk old.lists s → WhereTold now.story (IsLegible table disk lists)))
     → log ≡ log_turned old.log → lists ≡ frozen_at (old.log.next_lsn - 1) old.lists
     → Makes old (record old { device = now; log = log; lists = lists }) owner (Freeze least (Ok true))
-froze old now log lists owner least step may did kept log_is lists_is =
-    works-event old now log lists (turn_calls old.log) owner (Freeze least (Ok true)) step.pages
-    (record { going = step.going; leaves = step.leaves; planned = IsPlan-turn old.log; did = did; kept = kept; rows = ap (λ (l : Lists). l.rows) lists_is })
+froze old now log lists owner least step may did kept legible log_is lists_is =
+    works-event old now log lists (λ d. d) (turn_calls old.log) owner (Freeze least (Ok true)) step.pages
+    (record { going = step.going; leaves = step.leaves; planned = IsPlan-turn old.log; did = did; kept = kept; legible = λ table disk s told kept. legible table disk s told; rows = ap (λ (l : Lists). l.rows) lists_is })
     (answered old now owner (Freeze least (Ok true)) step tt tt refl refl (λ known m has. may-freeze old least may m has))
     (λ m has.
     (λ i. record m { seq = sym has.seq i; log = log_turned (sym has.log i); lists = frozen_at ((sym has.log i).next_lsn - 1) (sym has.lists i); table = m.table })
@@ -149,7 +159,7 @@ after-stop old new now log lists log_is lists_is is = is ∙ (λ i. record old {
 
 pub freeze-failed : (old new : StoreState) (now : DeviceState) (owner least : ℕ) → new ≡ stopped_state old now → IsStep old now → MayTurn old least
     → HasStoppedIn (turn_calls old.log) old.device.story now.story
-    → ((table : Table) → WhereTold old.device.story (λ s. IsLegible table old.lists s → WhereTold now.story (IsLegible table old.lists)))
+    → ((table : Table) (disk : List (List PrimRow)) → WhereTold old.device.story (λ s. IsLegible table disk old.lists s → WhereTold now.story (IsLegible table disk old.lists)))
     → Rose old.device.faults now.faults → Makes old new owner (Freeze least (Err Fault))
 freeze-failed old new now owner least is step may stopped legible rose =
     let plan : Calls = turn_calls old.log in
@@ -166,7 +176,7 @@ begin-stopped s owner faults is = nothing s owner (Begin (Err (Stopped faults)))
 -- a begun job leaves what is kept, and what can be read
 pub record LeavesKept (old : StoreState) : Type 0 where
   pub kept : (table : Table) (s : Story) (row : JobRow) → IsKept old.device.pages old.log table old.lists s → row.written ≡ 0 → IsKept old.device.pages old.log table (begun row old.lists) s
-  pub legible : (table : Table) (s : Story) (row : JobRow) → IsLegible table old.lists s → IsLegible table (begun row old.lists) s
+  pub legible : (table : Table) (disk : List (List PrimRow)) (s : Story) (row : JobRow) → IsLegible table disk old.lists s → IsLegible table disk (begun row old.lists) s
 
 pub began : (old : StoreState) (lists : Lists) (owner : ℕ) (job : Option Job) → old.stopped ≡ None → Begins owner old.lists lists (Ok job) → LeavesKept old
     → Makes old (record old { lists = lists }) owner (begin_of owner (Ok job))
@@ -175,10 +185,11 @@ began old lists owner None going begins leaves =
     (nothing old owner (Begin (Ok None)) tt tt refl refl (λ m. refl) (λ m. refl) (λ known m has. (sym has.stopped ∙ going, ap (λ (l : Lists). l.frozen) (sym has.lists) ∙ begins.0)))
 began old lists owner (Some job) going begins leaves =
     let row : JobRow = fresh owner job.plan in
-    subst (λ (l : Lists). Makes old (record old { lists = l }) owner (Begin (Ok (Some row)))) (sym begins.lists)
-    (still-event old (begun row old.lists) old.seq owner (Begin (Ok (Some row)))
+    let own : OwnedJob = record { owner = owner; job = job } in
+    subst (λ (l : Lists). Makes old (record old { lists = l }) owner (Begin (Ok (Some own)))) (sym begins.lists)
+    (still-event old (begun row old.lists) old.seq owner (Begin (Ok (Some own)))
     (record {
-      needs = λ known o m has tells. (sym has.stopped ∙ going, subst (λ (l : Lists). MayBegin l job.plan) has.lists begins.may, refl);
+      needs = λ known o m has tells. (sym has.stopped ∙ going, subst (λ (l : Lists). MayBegin l job.plan) has.lists begins.may, begins.job_is ∙ ap (λ (l : Lists). job_of l row) has.lists);
       owned = refl;
       acks = tt;
       stops = refl;
@@ -189,7 +200,7 @@ began old lists owner (Some job) going begins leaves =
     (λ m has. λ i. record m { seq = sym has.seq i; log = sym has.log i; lists = begun row (sym has.lists i); table = m.table })
     refl (λ m. refl)
     (λ o m has t. stays-there o old (record old { lists = begun row old.lists; seq = old.seq }) m has t refl refl refl refl
-    (λ table s kept. leaves.kept table s row kept refl) (λ table s legible. leaves.legible table s row legible)))
+    (λ table s kept. leaves.kept table s row kept refl) (λ table disk s legible. leaves.legible table disk s row legible)))
 
 begin-refuses : (old : StoreState) (lists : Lists) (owner ops : ℕ) (fault : BeginFault) → old.stopped ≡ None → Begins owner old.lists lists (Err fault) → ops ≡ old.log.records
     → (m : Machine) → Has old m → RefusesBegin m (refusal_of_begin ops fault)
@@ -223,41 +234,33 @@ begin-refused old lists owner ops fault going begins ops_is =
     subst (λ (l : Lists). Makes old (record old { lists = l }) owner (Begin (Err (refusal_of_begin ops fault)))) (sym begins.2)
     (begin-nothing old owner ops fault (begin-refuses old lists owner ops fault going begins ops_is))
 
--- the job of the store, which its owner has
-pub record HasJob (old : StoreState) (owner : ℕ) (row : JobRow) (job : Job) : Type 0 where
-  pub is : old.lists.job ≡ Some row
-  pub owned : row.owner ≡ owner
-  pub same : job ≡ job_of old.lists row
+-- the owner's job is what the lists keep of it
+own-row : (l : Lists) (owner : ℕ) (job : Job) (of : IsJobOf l owner job) → of.row ≡ row_of (record { owner = owner; job = job })
+own-row l owner job of i = record { owner = of.owned i; plan = (sym of.same i).plan; written = (sym of.same i).written }
 
-pub has-job : (old : StoreState) (owner : ℕ) (row : JobRow) (job : Job) → IsJobOf old.lists owner job → old.lists.job ≡ Some row → HasJob old owner row job
-has-job old owner row job of is =
-    subst (λ (r : JobRow). HasJob old owner r job) (same_Some _ _ (sym of.is ∙ is)) (record { is = of.is; owned = of.owned; same = of.same })
+is-writing : (old : StoreState) (owner : ℕ) (job : Job) → IsJobOf old.lists owner job → 0 < steps_left job → (m : Machine) → Has old m → IsWriting m (record { owner = owner; job = job })
+is-writing old owner job its left m has = record { begun = subst (λ (l : Lists). IsJobOf l owner job) has.lists its; left = omega (arith, left) }
 
-owned-by : (old : StoreState) (owner : ℕ) (row : JobRow) (job : Job) → HasJob old owner row job → Some owner ≡ Some row.owner
-owned-by old owner row job has = ap (λ (n : ℕ). Some n) (sym has.owned)
+pub write-stopped : (s : StoreState) (owner faults : ℕ) (job : Job) → IsJobOf s.lists owner job → 0 < steps_left job → s.stopped ≡ Some faults
+    → Makes s s owner (JobWrite (record { owner = owner; job = job }) (Err (Stopped faults)))
+write-stopped s owner faults job its left is =
+    nothing s owner (JobWrite (record { owner = owner; job = job }) (Err (Stopped faults))) refl tt refl refl (λ m. refl) (λ m. refl)
+    (λ known m has. (is-writing s owner job its left m has, sym has.stopped ∙ is))
 
-is-writing : (old : StoreState) (owner : ℕ) (row : JobRow) (job : Job) → HasJob old owner row job → 0 < steps_left job → (m : Machine) → Has old m → IsWriting m row
-is-writing old owner row job its left m has =
-    let some : 0 < steps_left (job_of old.lists row) = subst (λ (j : Job). 0 < steps_left j) its.same left in
-    record { job = ap (λ (l : Lists). l.job) (sym has.lists) ∙ its.is; left = omega (arith, some) }
-
-pub write-stopped : (s : StoreState) (owner faults : ℕ) (row : JobRow) (job : Job) → HasJob s owner row job → 0 < steps_left job → s.stopped ≡ Some faults → Makes s s owner (JobWrite row (Err (Stopped faults)))
-write-stopped s owner faults row job its left is =
-    nothing s owner (JobWrite row (Err (Stopped faults))) (owned-by s owner row job its) tt refl refl (λ m. refl) (λ m. refl)
-    (λ known m has. (is-writing s owner row job its left m has, sym has.stopped ∙ is))
-
-pub wrote-page : (old : StoreState) (now : DeviceState) (lists : Lists) (owner : ℕ) (row : JobRow) (job : Job) (bytes : List ℕ) → IsStep old now → HasJob old owner row job → 0 < steps_left job
+pub wrote-page : (old : StoreState) (now : DeviceState) (lists : Lists) (owner : ℕ) (job : Job) (bytes : List ℕ) → IsStep old now → IsJobOf old.lists owner job → 0 < steps_left job
     → length bytes ≡ PAGE_BYTES → now.story ≡ all_noted (Write ((job.plan.extent.first + job.written) * PAGE_BYTES) bytes ∷ []) old.device.story
     → ((table : Table) → WhereTold old.device.story (λ s. IsKept old.device.pages old.log table old.lists s → WhereTold now.story (IsKept old.device.pages old.log table lists)))
-    → lists ≡ one_written old.lists → Makes old (record old { device = now; lists = lists }) owner (JobWrite row (Ok tt))
-wrote-page old now lists owner row job bytes step its left wide did kept lists_is =
-    works-event old now old.log lists (Write ((job.plan.extent.first + job.written) * PAGE_BYTES) bytes ∷ []) owner (JobWrite row (Ok tt)) step.pages
-    (record { going = step.going; leaves = step.leaves; planned = tt; did = did; kept = kept; rows = ap (λ (l : Lists). l.rows) lists_is })
-    (answered old now owner (JobWrite row (Ok tt)) step (owned-by old owner row job its) tt refl refl (λ known m has. (sym has.stopped ∙ step.going, is-writing old owner row job its left m has)))
+    → ((table : Table) (disk : List (List PrimRow)) → WhereTold old.device.story (λ s. IsLegible table disk old.lists s → WhereTold now.story (IsLegible table disk lists)))
+    → lists ≡ one_written old.lists → Makes old (record old { device = now; lists = lists }) owner (JobWrite (record { owner = owner; job = job }) (Ok tt))
+wrote-page old now lists owner job bytes step its left wide did kept legible lists_is =
+    let own : OwnedJob = record { owner = owner; job = job } in
+    works-event old now old.log lists (λ d. d) (Write ((job.plan.extent.first + job.written) * PAGE_BYTES) bytes ∷ []) owner (JobWrite own (Ok tt)) step.pages
+    (record { going = step.going; leaves = step.leaves; planned = tt; did = did; kept = kept; legible = λ table disk s told kept. legible table disk s told; rows = ap (λ (l : Lists). l.rows) lists_is })
+    (answered old now owner (JobWrite own (Ok tt)) step refl tt refl refl (λ known m has. (sym has.stopped ∙ step.going, is-writing old owner job its left m has)))
     (λ m has.
     (λ i. record m { seq = sym has.seq i; log = sym has.log i; lists = one_written (sym has.lists i); table = m.table })
     ∙ (λ i. record m { seq = old.seq; log = old.log; lists = sym lists_is i; table = m.table }))
-    refl (λ m has. λ i. made_at (has.clock i + 1) (WriteAt (((its.same i).plan.extent.first + (its.same i).written) * PAGE_BYTES) (wide i)) ∷ [])
+    refl (λ m has. λ i. made_at (has.clock i + 1) (WriteAt ((job.plan.extent.first + job.written) * PAGE_BYTES) (wide i)) ∷ [])
 
 -- of one call none is left before the one that failed
 no-calls : (call : DeviceCall) (made : List DeviceCall) → IsFront (call ∷ []) made → made ≡ []
@@ -266,59 +269,62 @@ no-calls call (first ∷ made) front =
     let count : 1 ≡ suc (length (made ++ front.failed ∷ front.left)) = ap (λ (calls : List DeviceCall). length calls) front.front in
     absurd (omega (arith, count, length-append made (front.failed ∷ front.left)))
 
-pub page-failed : (old new : StoreState) (now : DeviceState) (owner : ℕ) (row : JobRow) (job : Job) (at : ℕ) (bytes : List ℕ) → new ≡ stopped_state old now → IsStep old now → HasJob old owner row job → 0 < steps_left job
+pub page-failed : (old new : StoreState) (now : DeviceState) (owner : ℕ) (job : Job) (at : ℕ) (bytes : List ℕ) → new ≡ stopped_state old now → IsStep old now → IsJobOf old.lists owner job → 0 < steps_left job
     → HasStoppedIn (Write at bytes ∷ []) old.device.story now.story
-    → ((table : Table) → WhereTold old.device.story (λ s. IsLegible table old.lists s → WhereTold now.story (IsLegible table old.lists)))
-    → Rose old.device.faults now.faults → Makes old new owner (JobWrite row (Err Fault))
-page-failed old new now owner row job at bytes is step its left stopped legible rose =
+    → ((table : Table) (disk : List (List PrimRow)) → WhereTold old.device.story (λ s. IsLegible table disk old.lists s → WhereTold now.story (IsLegible table disk old.lists)))
+    → Rose old.device.faults now.faults → Makes old new owner (JobWrite (record { owner = owner; job = job }) (Err Fault))
+page-failed old new now owner job at bytes is step its left stopped legible rose =
+    let own : OwnedJob = record { owner = owner; job = job } in
     let plan : Calls = Write at bytes ∷ [] in
     let fails : WorkFails old now plan = record { going = step.going; leaves = step.leaves; planned = tt; did = stopped; legible = legible } in
-    subst (λ (s : StoreState). Makes old s owner (JobWrite row (Err Fault))) (sym is)
-    (fails-event old now plan owner (JobWrite row (Err Fault)) step.pages fails
-    (failed old now owner (JobWrite row (Err Fault)) step (owned-by old owner row job its) tt refl rose (λ known m has. (is-writing old owner row job its left m has, sym has.stopped ∙ step.going)))
+    subst (λ (s : StoreState). Makes old s owner (JobWrite own (Err Fault))) (sym is)
+    (fails-event old now plan owner (JobWrite own (Err Fault)) step.pages fails
+    (failed old now owner (JobWrite own (Err Fault)) step refl tt refl rose (λ known m has. (is-writing old owner job its left m has, sym has.stopped ∙ step.going)))
     refl refl (λ m. refl)
     (λ o m has t by. no-calls _ (stopped_calls old now plan fails) by.front))
 
-is-written_out : (old : StoreState) (owner : ℕ) (row : JobRow) (job : Job) → HasJob old owner row job → IsLists old.lists → steps_left job ≡ 0 → (m : Machine) → Has old m → IsWrittenOut m row
-is-written_out old owner row job its lists done m has =
-    let none : steps_left (job_of old.lists row) ≡ 0 = subst (λ (j : Job). steps_left j ≡ 0) its.same done in
-    let planned : IsPlanned old.lists row = subst (IsPlannedIf old.lists) its.is lists.planned in
-    record { job = ap (λ (l : Lists). l.job) (sym has.lists) ∙ its.is; none_left = omega (arith, none, planned.written) }
+is-written_out : (old : StoreState) (owner : ℕ) (job : Job) → IsJobOf old.lists owner job → IsLists old.lists → steps_left job ≡ 0 → (m : Machine) → Has old m → IsWrittenOut m (record { owner = owner; job = job })
+is-written_out old owner job its lists done m has =
+    let none : steps_left (job_of old.lists its.row) ≡ 0 = subst (λ (j : Job). steps_left j ≡ 0) its.same done in
+    let planned : IsPlanned old.lists its.row = subst (IsPlannedIf old.lists) its.is lists.planned in
+    record {
+      begun = subst (λ (l : Lists). IsJobOf l owner job) has.lists its;
+      none_left = subst (λ (j : Job). j.written ≡ j.plan.extent.pages) (sym its.same) (omega (arith, none, planned.written));
+    }
 
-pub install-stopped : (s : StoreState) (owner faults : ℕ) (row : JobRow) (job : Job) → HasJob s owner row job → IsLists s.lists → steps_left job ≡ 0 → s.stopped ≡ Some faults
-    → Makes s s owner (Install row (Err (Stopped faults)))
-install-stopped s owner faults row job its lists done is =
-    nothing s owner (Install row (Err (Stopped faults))) (owned-by s owner row job its) tt refl refl (λ m. refl) (λ m. refl)
-    (λ known m has. (is-written_out s owner row job its lists done m has, sym has.stopped ∙ is))
+pub install-stopped : (s : StoreState) (owner faults : ℕ) (job : Job) → IsJobOf s.lists owner job → IsLists s.lists → steps_left job ≡ 0 → s.stopped ≡ Some faults
+    → Makes s s owner (Install (record { owner = owner; job = job }) (Err (Stopped faults)))
+install-stopped s owner faults job its lists done is =
+    nothing s owner (Install (record { owner = owner; job = job }) (Err (Stopped faults))) refl tt refl refl (λ m. refl) (λ m. refl)
+    (λ known m has. (is-written_out s owner job its lists done m has, sym has.stopped ∙ is))
 
--- the calls of an install are those of the machine's job
-same-calls : (old : StoreState) (owner : ℕ) (row : JobRow) (job : Job) → HasJob old owner row job → (m : Machine) → Has old m
-    → install_calls job.plan.slot (described job) ≡ install_calls row.plan.slot (described (job_of m.lists row))
-same-calls old owner row job its m has =
-    (λ i. install_calls (its.same i).plan.slot (described (its.same i))) ∙ (λ i. install_calls row.plan.slot (described (job_of (has.lists i) row)))
-
-pub was-installed : (old : StoreState) (now : DeviceState) (lists : Lists) (owner : ℕ) (row : JobRow) (job : Job) → IsStep old now → HasJob old owner row job → IsLists old.lists → steps_left job ≡ 0
+pub was-installed : (old : StoreState) (now : DeviceState) (lists : Lists) (owner : ℕ) (job : Job) → IsStep old now → (its : IsJobOf old.lists owner job) → IsLists old.lists → steps_left job ≡ 0
     → now.story ≡ all_noted (install_calls job.plan.slot (described job)) old.device.story
     → ((table : Table) → WhereTold old.device.story (λ s. IsKept old.device.pages old.log table old.lists s → WhereTold now.story (IsKept old.device.pages old.log table lists)))
-    → lists ≡ installed row old.lists → Makes old (record old { device = now; lists = lists }) owner (Install row (Ok tt))
-was-installed old now lists owner row job step its sound done did kept lists_is =
-    works-event old now old.log lists (install_calls job.plan.slot (described job)) owner (Install row (Ok tt)) step.pages
-    (record { going = step.going; leaves = step.leaves; planned = tt; did = did; kept = kept; rows = ap (λ (l : Lists). l.rows) lists_is })
-    (answered old now owner (Install row (Ok tt)) step (owned-by old owner row job its) tt refl refl (λ known m has. (sym has.stopped ∙ step.going, is-written_out old owner row job its sound done m has)))
+    → ((table : Table) (disk : List (List PrimRow)) → WhereTold old.device.story (λ s. IsKept old.device.pages old.log table old.lists s → IsLegible table disk old.lists s
+    → WhereTold now.story (IsLegible table (job.rows ∷ disk) lists)))
+    → lists ≡ installed its.row old.lists → Makes old (record old { device = now; lists = lists }) owner (Install (record { owner = owner; job = job }) (Ok tt))
+was-installed old now lists owner job step its sound done did kept legible lists_is =
+    let own : OwnedJob = record { owner = owner; job = job } in
+    let after_it : lists ≡ installed (row_of own) old.lists = lists_is ∙ ap (λ (row : JobRow). installed row old.lists) (own-row old.lists owner job its) in
+    works-event old now old.log lists (λ d. job.rows ∷ d) (install_calls job.plan.slot (described job)) owner (Install own (Ok tt)) step.pages
+    (record { going = step.going; leaves = step.leaves; planned = tt; did = did; kept = kept; legible = legible; rows = ap (λ (l : Lists). l.rows) lists_is })
+    (answered old now owner (Install own (Ok tt)) step refl tt refl refl (λ known m has. (sym has.stopped ∙ step.going, is-written_out old owner job its sound done m has)))
     (λ m has.
-    (λ i. record m { seq = sym has.seq i; log = sym has.log i; lists = installed row (sym has.lists i); table = m.table })
-    ∙ (λ i. record m { seq = old.seq; log = old.log; lists = sym lists_is i; table = m.table }))
-    refl (λ m has. λ i. ok_calls (has.clock i) (same-calls old owner row job its m has i))
+    (λ i. record m { seq = sym has.seq i; log = sym has.log i; lists = installed (row_of own) (sym has.lists i); disk = job.rows ∷ m.disk; table = m.table })
+    ∙ (λ i. record m { seq = old.seq; log = old.log; lists = sym after_it i; disk = job.rows ∷ m.disk; table = m.table }))
+    refl (λ m has. λ i. ok_calls (has.clock i) (install_calls job.plan.slot (described job)))
 
-pub install-failed : (old new : StoreState) (now : DeviceState) (owner : ℕ) (row : JobRow) (job : Job) → new ≡ stopped_state old now → IsStep old now → HasJob old owner row job → IsLists old.lists → steps_left job ≡ 0
+pub install-failed : (old new : StoreState) (now : DeviceState) (owner : ℕ) (job : Job) → new ≡ stopped_state old now → IsStep old now → IsJobOf old.lists owner job → IsLists old.lists → steps_left job ≡ 0
     → HasStoppedIn (install_calls job.plan.slot (described job)) old.device.story now.story
-    → ((table : Table) → WhereTold old.device.story (λ s. IsLegible table old.lists s → WhereTold now.story (IsLegible table old.lists)))
-    → Rose old.device.faults now.faults → Makes old new owner (Install row (Err Fault))
-install-failed old new now owner row job is step its sound done stopped legible rose =
+    → ((table : Table) (disk : List (List PrimRow)) → WhereTold old.device.story (λ s. IsLegible table disk old.lists s → WhereTold now.story (IsLegible table disk old.lists)))
+    → Rose old.device.faults now.faults → Makes old new owner (Install (record { owner = owner; job = job }) (Err Fault))
+install-failed old new now owner job is step its sound done stopped legible rose =
+    let own : OwnedJob = record { owner = owner; job = job } in
     let plan : Calls = install_calls job.plan.slot (described job) in
     let fails : WorkFails old now plan = record { going = step.going; leaves = step.leaves; planned = tt; did = stopped; legible = legible } in
-    subst (λ (s : StoreState). Makes old s owner (Install row (Err Fault))) (sym is)
-    (fails-event old now plan owner (Install row (Err Fault)) step.pages fails
-    (failed old now owner (Install row (Err Fault)) step (owned-by old owner row job its) tt refl rose (λ known m has. (is-written_out old owner row job its sound done m has, sym has.stopped ∙ step.going)))
+    subst (λ (s : StoreState). Makes old s owner (Install own (Err Fault))) (sym is)
+    (fails-event old now plan owner (Install own (Err Fault)) step.pages fails
+    (failed old now owner (Install own (Err Fault)) step refl tt refl rose (λ known m has. (is-written_out old owner job its sound done m has, sym has.stopped ∙ step.going)))
     refl refl (λ m. refl)
-    (λ o m has t by. subst (λ (all : List DeviceCall). IsFront all (stopped_calls old now plan fails)) (λ i. ok_calls (same-clock o old m has t i) (same-calls old owner row job its m has i)) by.front))
+    (λ o m has t by. subst (λ (all : List DeviceCall). IsFront all (stopped_calls old now plan fails)) (λ i. ok_calls (same-clock o old m has t i) (install_calls job.plan.slot (described job))) by.front))

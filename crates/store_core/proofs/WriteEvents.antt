@@ -18,7 +18,9 @@ use Rattle.wal_log.specs.declared.records.LogOp.TheVariants.{Put, Del}
 use Rattle.primary_ix.specs.Wanted.{table_row}
 use Rattle.store_machine.specs.Machine.{is_logged, Machine}
 use Rattle.store_machine.specs.Needs.{place_in, RefusesWrite, IsReadyToWrite}
-use Rattle.store_machine.specs.Standing.{DeviceState, StoreState, Has, Tells, Makes}
+use Rattle.store_machine.specs.Calls.{Makes}
+use Rattle.store_machine.specs.Standing.{StoreState, Has, Tells}
+use Rattle.store_machine.specs.Devices.{DeviceState}
 use Rattle.store_machine.specs.declared.events.Wrote.{Wrote}
 use Rattle.store_machine.specs.declared.events.Refusal.{Refusal}
 use Rattle.store_machine.specs.declared.events.Refusal.TheVariants.{Fault, Stopped, Full, Again, NoIndex, Damaged, OutOfMemory}
@@ -96,7 +98,7 @@ read-refused old now owner op (page.Damaged n) pages is rose memory can =
     reads-event old now (way_to (key_of op)) (Err (page.Damaged n)) pages old.seq owner (Write op (Err (Damaged n))) is.reads
     (record {
       needs = λ known o m has tells. (
-        known-sound known (λ is_known. let t : Tells o old m = tells is_known in let e : page.Damaged n ≡ page.Failed = is.row m.table t.now t.told t.legible in cc),
+        known-sound known (λ is_known. let t : Tells o old m = tells is_known in let e : page.Damaged n ≡ page.Failed = is.row m.table m.disk t.now t.told t.legible in cc),
         ready-to_write old m can has,
       );
       owned = tt;
@@ -134,7 +136,7 @@ nothing-there old mid new owner (Del key) None wrote was can none wrote_is new_i
         ready = ready-to_write old m can has;
         seq = has.seq;
         ops = ap (λ (l : Log). l.records) has.log;
-        old = λ is_known. let t : Tells o old m = tells is_known in sym (absent m.table key (was.row_is m.table t.now t.told t.legible));
+        old = λ is_known. let t : Tells o old m = tells is_known in sym (absent m.table key (was.row_is m.table m.disk t.now t.told t.legible));
       };
       owned = tt;
       acks = refl;
@@ -144,7 +146,7 @@ nothing-there old mid new owner (Del key) None wrote was can none wrote_is new_i
       time = was.time;
     })
     (λ m has i. record m { seq = next_count (sym has.seq i); log = sym has.log i; lists = sym has.lists i; table = finite.remove m.table key })
-    (λ o m has t. remove-absent m.table key (absent m.table key (was.row_is m.table t.now t.told t.legible)))
+    (λ o m has t. remove-absent m.table key (absent m.table key (was.row_is m.table m.disk t.now t.told t.legible)))
     refl (λ m calls are. are)))
 
 logs : (op : LogOp) (row : Option Row) (wrote : Wrote) → has_to_log op (is_some row) ≡ true → wrote.old ≡ option_map matter_of row → is_logged op wrote ≡ true
@@ -175,7 +177,7 @@ wrote-logged old mid logged new owner op row wrote ack was mid_can has mid_logge
       logs = logs op row wrote has old_is;
       seq = seq ∙ ap (λ (s : StoreState). s.seq) l.rest;
       ops = ops ∙ ap (λ (x : Log). x.records) l.all.log_is;
-      old_is = λ table s told legible. ap (option_map place_in) old_is ∙ place-found table (key_of op) row (was.row_is table s told legible);
+      old_is = λ table disk s told legible. ap (option_map place_in) old_is ∙ place-found table (key_of op) row (was.row_is table disk s told legible);
     })
     l.time was.time (omega (arith, was.reads.later, l.later)))
 

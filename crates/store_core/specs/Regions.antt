@@ -3,7 +3,7 @@ use Rattle.std.specs.Prelude.{List, [], ◌∷◌, ◌++◌, Result, Ok, Err}
 use Rattle.std.specs.Option.{option_to_list}
 use Rattle.geo_base.specs.declared.points.Row.{Row}
 use Rattle.primary_ix.specs.declared.rows.PrimRow.{PrimRow}
-use Rattle.primary_ix.specs.Wanted.{record_in}
+use Rattle.primary_ix.specs.Records.{record_in}
 use Rattle.store_machine.specs.declared.events.Found.{Found}
 use Rattle.store_machine.specs.declared.events.Refusal.{Refusal}
 use Rattle.store_core.specs.declared.region.RegionRows.{RegionRows}

@@ -1,7 +1,8 @@
 -- What there is to see of a store on a device.
 use Rattle.std.specs.Prelude.{ℕ, Option}
 use Rattle.dev_model.specs.Story.{Story}
-use Rattle.store_machine.specs.Standing.{DeviceState, StoreState}
+use Rattle.store_machine.specs.Standing.{StoreState}
+use Rattle.store_machine.specs.Devices.{DeviceState}
 use Rattle.store_core.specs.declared.store.Store.{Store}
 
 abbrev pub device_of : {D : Type 0} → (D → ℕ) → (D → ℕ) → (D → ℕ) → (D → Option Story) → D → DeviceState

@@ -3,14 +3,17 @@ use Rattle.std.specs.Prelude.{◌≡◌, ℕ, ◌<◌, ◌≤◌, ◌^◌, Bool,
 use Rattle.std.specs.Option.{option_map}
 use Rattle.dev_model.specs.Counts.{Rose}
 use Rattle.dev_model.specs.Story.{WhereTold}
+use Rattle.dev_model.specs.Doing.{all_noted}
 use Rattle.geo_base.specs.declared.points.Point.{Point}
 use Rattle.geo_base.specs.declared.points.Row.{Row}
 use Rattle.table_model.specs.Table.{Table}
 use Rattle.wal_log.specs.Records.{record_bytes}
+use Rattle.wal_log.specs.Changes.{append_calls}
 use Rattle.wal_log.specs.declared.places.TheConstants.{MOST_RECORDS}
 use Rattle.wal_log.specs.declared.records.LogOp.{LogOp}
 use Rattle.wal_log.specs.declared.records.LogOp.TheVariants.{Put, Del}
 use Rattle.primary_ix.specs.Wanted.{table_row}
+use Rattle.primary_ix.specs.declared.rows.PrimRow.{PrimRow}
 use Rattle.store_machine.specs.declared.events.Refusal.{Refusal}
 use Rattle.store_machine.specs.declared.events.Refusal.TheVariants.{Fault, Stopped, Full, Again, NoIndex, Damaged, OutOfMemory}
 use Rattle.kept_state.specs.Reading.{IsLegible}
@@ -19,6 +22,7 @@ use Rattle.store_machine.specs.Laws.Logging.{between, LogsAll, LogFails, failed_
 use Rattle.store_machine.specs.Runs.{way_to}
 use Rattle.store_machine.specs.Laws.Reading.{HasOnlyRead}
 use Rattle.store_machine.specs.Standing.{StoreState}
+use Rattle.store_machine.specs.Devices.{DeviceState}
 
 -- nothing has stopped the store, and there is room for one write more
 pub record CanWrite (store : StoreState) : Type 0 where
@@ -57,6 +61,11 @@ pub record Logged (old new : StoreState) (op : LogOp) (row : Option Row) (ack : 
   pub later : old.device.faults ≤ new.device.faults
   pub rest : new ≡ record old { device = new.device; log = new.log; lists = new.lists; acks = old.acks ++ ack ∷ [] }
 
+-- the record of a write was appended
+pub record HasAppended (old : StoreState) (now : DeviceState) (op : LogOp) (row : Option Row) : Type 0 where
+  pub width : length (record_bytes (next_record old.log op (old_point row))) ≡ 95
+  pub did : now.story ≡ all_noted (append_calls old.log (next_record old.log op (old_point row))) old.device.story
+
 -- the device failed while a write was logged
 pub record IsNotLogged (old new : StoreState) (op : LogOp) (row : Option Row) : Type 0 where
   pub fails : LogFails old new.device op (next_record old.log op (old_point row))
@@ -70,6 +79,6 @@ pub record IsNotLogged (old new : StoreState) (op : LogOp) (row : Option Row) : 
 pub record WasRead (before now : StoreState) (key : ℕ) (row : Option Row) : Type 0 where
   pub pages : List ℕ
   pub reads : HasOnlyRead {X = Option Row} before now.device (way_to key) (Ok row) pages
-  pub row_is : (table : Table) → WhereTold before.device.story (λ s. IsLegible table before.lists s → row ≡ table_row table key)
+  pub row_is : (table : Table) (disk : List (List PrimRow)) → WhereTold before.device.story (λ s. IsLegible table disk before.lists s → row ≡ table_row table key)
   pub time : before.device.clock ≤ now.device.clock
   pub rest : now ≡ between before now.device

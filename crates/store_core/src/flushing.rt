@@ -1,13 +1,12 @@
 // Freezes, the jobs that write what is frozen, and the installs of their components.
 ghost use Rattle.std.specs.Prelude.{◌≡◌, ◌+◌, ◌<◌, ◌≤◌, IfOk, IfSome, OnErr, OnOk, None, Some};
-ghost use Rattle.build_job.specs.Jobs.{steps_left};
-ghost use Rattle.store_machine.specs.Standing.{IsReady, Makes};
+ghost use Rattle.build_job.specs.Steps.{steps_left};
+ghost use Rattle.store_machine.specs.Calls.{IsReady, Makes};
 ghost use Rattle.store_machine.specs.declared.events.Action.{Action};
 ghost use Rattle.store_core.specs.Begun.{begin_of};
 ghost use Rattle.store_core.specs.Refusals.{refusal_of_begin};
 ghost use Rattle.store_core.specs.Stores.{state_of};
-ghost use Rattle.store_state.specs.Lists.{IsJobOf};
-ghost use Rattle.store_state.specs.declared.jobs.JobRow.{JobRow};
+ghost use Rattle.store_state.specs.OwnJob.{IsJobOf};
 
 use crate::store::Store;
 use build_job::BuildJob;
@@ -93,7 +92,7 @@ impl<D: Device> Store<D> {
         requires ready { IsReady (state_of D.pages D.clock D.fault_count D.story self.old) }
         requires begun { IsJobOf self.old.state.0 owner job.old }
         requires left { 0 < steps_left job.old }
-        ensures event { (row : JobRow) → self.old.state.0.job ≡ Some row → Makes (state_of D.pages D.clock D.fault_count D.story self.old) (state_of D.pages D.clock D.fault_count D.story self.new) owner (Action.JobWrite row result) }
+        ensures event { Makes (state_of D.pages D.clock D.fault_count D.story self.old) (state_of D.pages D.clock D.fault_count D.story self.new) owner (Action.JobWrite (record { owner = owner; job = job.old }) result) }
         ensures begun { IsJobOf self.new.state.0 owner job.new }
         ensures next { OnOk result (job.new ≡ record job.old { written = job.old.written + 1 }) }
         ensures unchanged { OnErr result (job.new ≡ job.old) }
@@ -116,7 +115,7 @@ impl<D: Device> Store<D> {
         requires ready { IsReady (state_of D.pages D.clock D.fault_count D.story self.old) }
         requires begun { IsJobOf self.old.state.0 owner job.now }
         requires written { steps_left job.now ≡ 0 }
-        ensures event { (row : JobRow) → self.old.state.0.job ≡ Some row → Makes (state_of D.pages D.clock D.fault_count D.story self.old) (state_of D.pages D.clock D.fault_count D.story self.new) owner (Action.Install row result) }
+        ensures event { Makes (state_of D.pages D.clock D.fault_count D.story self.old) (state_of D.pages D.clock D.fault_count D.story self.new) owner (Action.Install (record { owner = owner; job = job.now }) result) }
         ensures ready { IsReady (state_of D.pages D.clock D.fault_count D.story self.new) }
     {
         if let Some(faults) = self.stopped {

@@ -10,10 +10,3 @@ mod writing;
 
 pub use region::RegionRows;
 pub use store::Store;
-
-#[cfg(test)]
-mod flush_tests;
-#[cfg(test)]
-mod test_steps;
-#[cfg(test)]
-mod tests;

@@ -1,11 +1,12 @@
 // The opening of a store.
-ghost use Rattle.std.specs.Prelude.{◌≡◌, ◌≤◌, None, IfOk, IfErr};
+ghost use Rattle.std.specs.Prelude.{◌≡◌, ◌≤◌, [], None, IfOk, IfErr};
 ghost use Rattle.dev_model.specs.Story.{WhereTold, bytes_of, IsCalmAt};
 ghost use Rattle.dev_model.specs.Moments.{ReadsWithin};
 ghost use Rattle.image_model.specs.Opening.{IsOpeningRange};
 ghost use Rattle.component_image.specs.Recovered.{IsLookedAt};
 ghost use Rattle.store_opening.specs.Openings.{IsRefusal, HasFaulted};
-ghost use Rattle.store_machine.specs.Standing.{IsReady, OpensFrom};
+ghost use Rattle.store_machine.specs.Calls.{IsReady};
+ghost use Rattle.store_machine.specs.Standing.{StandsSince};
 ghost use Rattle.store_machine.specs.Laws.Opening.{opened_state};
 ghost use Rattle.store_core.specs.Stores.{state_of, device_of};
 
@@ -26,7 +27,7 @@ impl<D: Device> Store<D> {
     pub fn open(alloc: Global, device: D) -> Result<Store<D>, (D, OpenFault)>
         requires least { LEAST_PAGES ≤ D.pages device }
         requires most { D.pages device ≤ MOST_PAGES }
-        ensures stands { IfOk result (λ store. OpensFrom (device_of D.pages D.clock D.fault_count D.story device) (state_of D.pages D.clock D.fault_count D.story store)) }
+        ensures stands { IfOk result (λ store. StandsSince (device_of D.pages D.clock D.fault_count D.story device) (state_of D.pages D.clock D.fault_count D.story store) []) }
         ensures ready { IfOk result (λ store. IsReady (state_of D.pages D.clock D.fault_count D.story store)) }
         ensures idle { IfOk result (λ store. (state_of D.pages D.clock D.fault_count D.story store).lists.job ≡ None) }
         ensures refused { IfErr result (λ refused. WhereTold (D.story device) (λ s. IsCalmAt (IsLookedAt (bytes_of s)) s → IsRefusal (D.pages device) refused.1 (bytes_of s))) }
@@ -34,6 +35,7 @@ impl<D: Device> Store<D> {
         ensures reads { IfOk result (λ store. WhereTold (D.story device) (λ s. ReadsWithin IsOpeningRange s (state_of D.pages D.clock D.fault_count D.story store).device.story)) }
         ensures reads_refused { IfErr result (λ refused. WhereTold (D.story device) (λ s. ReadsWithin IsOpeningRange s (D.story refused.0))) }
         ensures same_pages { IfErr result (λ refused. D.pages refused.0 ≡ D.pages device) }
+        ensures pages { IfOk result (λ store. (state_of D.pages D.clock D.fault_count D.story store).device.pages ≡ D.pages device) }
     {
         let mut device = device;
         match open_state(alloc, &mut device) {

@@ -1,9 +1,10 @@
 // What a store answers of its rows.
 ghost use Rattle.std.specs.Prelude.{◌≡◌};
-ghost use Rattle.store_machine.specs.Standing.{IsReady, Makes};
+ghost use Rattle.store_machine.specs.Calls.{IsReady, Makes};
 ghost use Rattle.store_machine.specs.declared.events.Action.{Action};
 ghost use Rattle.store_core.specs.Refusals.{refusal_of};
 ghost use Rattle.store_core.specs.Stores.{state_of};
+ghost use Rattle.store_core.specs.Tested.{TestsPages};
 
 use crate::store::Store;
 use dev_model::Device;
@@ -23,11 +24,13 @@ pub(crate) fn refused(fault: PageFault) -> Refusal
 }
 
 impl<D: Device> Store<D> {
-    /// The row of a key. It takes no memory. `Fault` where a page could not be read, and `Damaged` where a page that was read
-    /// is none for its place, which doesn't come where the store was opened from what was on the disk.
+    /// The row of a key. It takes no memory. `Fault` where a page could not be read, and `Damaged` where the page that was read
+    /// last is none for its place, which doesn't come where the store was opened from what was on the disk. After an answer
+    /// each page that was read has the header of its place.
     pub fn get(&mut self, owner: u64, key: u64) -> Result<Got, Refusal>
         requires ready { IsReady (state_of D.pages D.clock D.fault_count D.story self.old) }
         ensures event { Makes (state_of D.pages D.clock D.fault_count D.story self.old) (state_of D.pages D.clock D.fault_count D.story self.new) owner (Action.Get key result) }
+        ensures pages { TestsPages (state_of D.pages D.clock D.fault_count D.story self.old) (state_of D.pages D.clock D.fault_count D.story self.new).device result }
         ensures ready { IsReady (state_of D.pages D.clock D.fault_count D.story self.new) }
     {
         match read_row(&mut self.device, &self.state, key) {

@@ -2,11 +2,12 @@
 ghost use Rattle.std.specs.Prelude.{◌≡◌, ◌++◌, IfOk, OnOk};
 ghost use Rattle.std.specs.Option.{option_to_list};
 ghost use Rattle.table_model.specs.Table.{rows_inside};
-ghost use Rattle.primary_ix.specs.Wanted.{record_in};
-ghost use Rattle.store_machine.specs.Standing.{IsReady, Makes};
+ghost use Rattle.primary_ix.specs.Records.{record_in};
+ghost use Rattle.store_machine.specs.Calls.{IsReady, Makes};
 ghost use Rattle.store_machine.specs.declared.events.Action.{Action};
 ghost use Rattle.store_core.specs.Regions.{records_in, found_of};
 ghost use Rattle.store_core.specs.Stores.{state_of};
+ghost use Rattle.store_core.specs.Tested.{TestsPages};
 
 use crate::reading::refused;
 use crate::store::Store;
@@ -53,7 +54,8 @@ fn inside(alloc: Global, rows: &[PrimRow], rect: &Rect) -> Result<ItemList<Row>,
 impl<D: Device> Store<D> {
     /// The rows whose points are in the rectangle, edges included. `NoIndex` exactly where the index isn't declared. Until the
     /// indexes have components of their own, all rows are looked through. `Fault` where a page could not be read, and `Damaged`
-    /// where a page that was read is none for its place, which doesn't come where the store was opened from what was on the disk.
+    /// where the page that was read last is none for its place, which doesn't come where the store was opened from what was on
+    /// the disk. After an answer each page that was read has the header of its place.
     pub fn region(
         &mut self,
         alloc: Global,
@@ -63,6 +65,7 @@ impl<D: Device> Store<D> {
     ) -> Result<RegionRows, Refusal>
         requires ready { IsReady (state_of D.pages D.clock D.fault_count D.story self.old) }
         ensures event { Makes (state_of D.pages D.clock D.fault_count D.story self.old) (state_of D.pages D.clock D.fault_count D.story self.new) owner (Action.Region kind rect.now (found_of result)) }
+        ensures pages { TestsPages (state_of D.pages D.clock D.fault_count D.story self.old) (state_of D.pages D.clock D.fault_count D.story self.new).device result }
         ensures ready { IsReady (state_of D.pages D.clock D.fault_count D.story self.new) }
     {
         if !self.indexes.has(kind) {

@@ -1,7 +1,7 @@
 // A store: its parts, and what it answers without its device.
 ghost use Rattle.std.specs.Prelude.{◌≡◌};
 ghost use Rattle.dev_model.specs.Counts.{next_count};
-ghost use Rattle.store_machine.specs.Standing.{IsReady, Makes};
+ghost use Rattle.store_machine.specs.Calls.{IsReady, Makes};
 ghost use Rattle.store_machine.specs.declared.events.Action.{Action};
 ghost use Rattle.store_core.specs.Stores.{state_of, device_of};
 
@@ -74,6 +74,13 @@ impl<D: Device> Store<D> {
         ensures { result.now ≡ (state_of D.pages D.clock D.fault_count D.story self.now).acks }
     {
         self.acks.as_slice()
+    }
+
+    /// The device, to look at.
+    pub fn device(&self) -> &D
+        ensures { device_of D.pages D.clock D.fault_count D.story result.now ≡ (state_of D.pages D.clock D.fault_count D.story self.now).device }
+    {
+        &self.device
     }
 
     /// Gives the device back, with the acks. It takes no memory.

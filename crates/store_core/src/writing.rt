@@ -1,17 +1,21 @@
 // Writes: each is logged before it is answered.
-ghost use Rattle.std.specs.Prelude.{◌≡◌, ◌<◌, ◌≤◌, IfOk, IfErr, OnOk, OnErr, ℕ, None, true, is_some};
+ghost use Rattle.std.specs.Prelude.{◌≡◌, ◌<◌, ◌≤◌, IfOk, IfErr, OnOk, OnErr, ℕ, List, None, true, is_some};
 ghost use Rattle.std.specs.Option.{option_map};
 ghost use Rattle.dev_model.specs.Counts.{next_count};
 ghost use Rattle.dev_model.specs.Story.{WhereTold};
 ghost use Rattle.table_model.specs.Table.{Table};
 ghost use Rattle.wal_log.specs.Records.{key_of};
+ghost use Rattle.primary_ix.specs.declared.rows.PrimRow.{PrimRow};
 ghost use Rattle.component_image.specs.Told.{SaysOld};
 ghost use Rattle.kept_state.specs.Reading.{IsLegible};
 ghost use Rattle.kept_state.specs.Writing.{next_record};
-ghost use Rattle.store_machine.specs.Standing.{StoreState, IsReady, Makes};
+ghost use Rattle.store_machine.specs.Calls.{IsReady, Makes};
+ghost use Rattle.store_machine.specs.Standing.{StoreState};
 ghost use Rattle.store_machine.specs.declared.events.Action.{Action};
+ghost use Rattle.store_machine.specs.declared.events.Refusal.{Refusal};
 ghost use Rattle.store_core.specs.Stores.{state_of};
-ghost use Rattle.store_core.specs.Writing.{CanWrite, RefusesNow, Logged, IsNotLogged, WasRead, has_to_log, matter_of, old_point};
+ghost use Rattle.store_core.specs.Tested.{TestsPages};
+ghost use Rattle.store_core.specs.Writing.{CanWrite, HasAppended, RefusesNow, Logged, IsNotLogged, WasRead, has_to_log, matter_of, old_point};
 
 use crate::reading::refused;
 use crate::store::Store;
@@ -106,7 +110,7 @@ impl<D: Device> Store<D> {
         requires room { 0 < self.old.acks.spare }
         requires room_in_memory { 1 ≤ self.old.state.1 }
         requires logs { has_to_log op.now (is_some row.now) ≡ true }
-        requires says { (table : Table) → WhereTold (D.story self.old.device) (λ s. IsLegible table self.old.state.0 s → SaysOld table (next_record self.old.log op.now (old_point row.now))) }
+        requires says { (table : Table) (disk : List (List PrimRow)) → WhereTold (D.story self.old.device) (λ s. IsLegible table disk self.old.state.0 s → SaysOld table (next_record self.old.log op.now (old_point row.now))) }
         ensures logged { IfOk result (Logged (state_of D.pages D.clock D.fault_count D.story self.old) (state_of D.pages D.clock D.fault_count D.story self.new) op.now row.now) }
         ensures fails { OnErr result (IsNotLogged (state_of D.pages D.clock D.fault_count D.story self.old) (state_of D.pages D.clock D.fault_count D.story self.new) op.now row.now) }
         ensures ready { IsReady (state_of D.pages D.clock D.fault_count D.story self.new) }
@@ -150,9 +154,11 @@ impl<D: Device> Store<D> {
         requires room { 0 < self.old.acks.spare }
         requires room_in_memory { 1 ≤ self.old.state.1 }
         requires logs { has_to_log op.now (is_some row.now) ≡ true }
-        requires says { (table : Table) → WhereTold (D.story self.old.device) (λ s. IsLegible table self.old.state.0 s → SaysOld table (next_record self.old.log op.now (old_point row.now))) }
+        requires says { (table : Table) (disk : List (List PrimRow)) → WhereTold (D.story self.old.device) (λ s. IsLegible table disk self.old.state.0 s → SaysOld table (next_record self.old.log op.now (old_point row.now))) }
         ensures event { (before : StoreState) (owner : ℕ) → WasRead before (state_of D.pages D.clock D.fault_count D.story self.old) (key_of op.now) row.now
             → Makes before (state_of D.pages D.clock D.fault_count D.story self.new) owner (Action.Write op.now result) }
+        ensures logged { OnOk result (HasAppended (state_of D.pages D.clock D.fault_count D.story self.old) (state_of D.pages D.clock D.fault_count D.story self.new).device op.now row.now) }
+        ensures fault { IfErr result (λ refusal. refusal ≡ Refusal.Fault) }
         ensures ready { IsReady (state_of D.pages D.clock D.fault_count D.story self.new) }
     {
         match self.log_op(op, row) {
@@ -172,12 +178,13 @@ impl<D: Device> Store<D> {
     /// without the log, with the ack 0. The refusals, in this order: `Stopped` exactly where a write or a sync of the device
     /// failed earlier; `Full` exactly where the numbers of writes are used up; `Again` exactly where 2,048 writes wait to be
     /// flushed; `OutOfMemory`, before any call of the device; `Fault` where the row at the key could not be read, and
-    /// `Damaged` where a page that was read for it is none for its place (which doesn't come where the store was opened from
-    /// what was on the disk), both before anything is written; and `Fault` where the device failed while the write was logged:
+    /// `Damaged` where the page that was read last for it is none for its place (which doesn't come where the store was opened
+    /// from what was on the disk), both before anything is written; and `Fault` where the device failed while the write was logged:
     /// the table is as before, the store is stopped, and the write may stand on the device.
     pub fn write(&mut self, owner: u64, op: &WriteOp) -> Result<Wrote, Refusal>
         requires ready { IsReady (state_of D.pages D.clock D.fault_count D.story self.old) }
         ensures event { Makes (state_of D.pages D.clock D.fault_count D.story self.old) (state_of D.pages D.clock D.fault_count D.story self.new) owner (Action.Write op.now result) }
+        ensures pages { TestsPages (state_of D.pages D.clock D.fault_count D.story self.old) (state_of D.pages D.clock D.fault_count D.story self.new).device result }
         ensures ready { IsReady (state_of D.pages D.clock D.fault_count D.story self.new) }
     {
         if let Err(refusal) = self.check_write() {

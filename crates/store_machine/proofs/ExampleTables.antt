@@ -11,7 +11,7 @@ use Rattle.primary_ix.specs.Rows.{prim_reading}
 use Rattle.primary_ix.specs.Wanted.{matter_row, table_row, wanted_rows}
 use Rattle.primary_ix.specs.declared.rows.PrimRow.{PrimRow}
 use Rattle.table_model.specs.Table.{Place, Table, place_of, row_at, rows_of}
-use Rattle.store_machine.specs.Examples.{seven}
+use Rattle.store_machine.specs.Examples.{eight, seven}
 
 abbrev pub none : Table
 none = empty
@@ -48,47 +48,15 @@ no_rows_again = ap (λ t. length (rows_of t)) emptied ∙ no_rows
 pub row_there : table_row with_seven 7 ≡ Some seven
 row_there = ap (option_map (λ (place : Place). row_at (7, place))) seven_there
 
--- no row, and the row that the lists in memory or a component have, are what these tables want of the lists
-abbrev pub row_seven : PrimRow
-row_seven = matter_row seven
+-- and beside another row
+abbrev pub with_both : Table
+with_both = insert with_seven 8 (place_of eight)
 
-abbrev wanted_place : ℕ → Option Place → Option PrimRow
-wanted_place k place = option_map matter_row (option_map (λ (p : Place). row_at (k, p)) place)
+seven_beside : get with_both 7 ≡ Some (place_of seven)
+seven_beside =
+    get-insert nat_cmp_total with_seven 8 (place_of eight) 7
+    ∙ ap (λ (b : Bool). cond b (Some (place_of eight)) (get with_seven 7)) (unsigned_tied 7 8)
+    ∙ seven_there
 
-pub no_rows_fit : Fits prim_reading ([] ∷ []) (wanted_rows none)
-unfolding newest_at entry_at
-no_rows_fit k = sym (ap (wanted_place k) (get-empty nat_cmp k))
-
--- whether a list has the row of a key
-found_seven : (k : ℕ) → (if eq_by_cmp nat_cmp 7 k then Some row_seven else None) ≡ wanted_rows with_seven k
-found_seven k = by_test (7 == k) refl
-  where
-    by_test : (b : Bool) → (7 == k) ≡ b → (if eq_by_cmp nat_cmp 7 k then Some row_seven else None) ≡ wanted_rows with_seven k
-    by_test true is =
-        let same : 7 ≡ k = grind (arith, nat_tests, is) in
-        subst (λ (n : ℕ). (if eq_by_cmp nat_cmp 7 n then Some row_seven else None) ≡ wanted_rows with_seven n) same (sym (ap (wanted_place 7) seven_there))
-    by_test false is =
-        let other : (k == 7) ≡ false = grind (arith, nat_tests, is) in
-        let left : (if eq_by_cmp nat_cmp 7 k then Some row_seven else None) ≡ None = ap (λ (b : Bool). if b then Some row_seven else None) (unsigned_tied 7 k ∙ is) in
-        let place : get with_seven k ≡ None =
-        get-insert nat_cmp_total none 7 (place_of seven) k ∙ ap (λ (b : Bool). cond b (Some (place_of seven)) (get none k)) (unsigned_tied k 7 ∙ other) ∙ get-empty nat_cmp k in
-        left ∙ sym (ap (wanted_place k) place)
-
-unless_found : (k : ℕ) → unless_anti prim_reading (if eq_by_cmp nat_cmp 7 k then Some row_seven else None) ≡ (if eq_by_cmp nat_cmp 7 k then Some row_seven else None)
-unless_found k = by_test (eq_by_cmp nat_cmp 7 k)
-  where
-    by_test : (b : Bool) → unless_anti prim_reading (if b then Some row_seven else None) ≡ (if b then Some row_seven else None)
-    by_test true = refl
-    by_test false = refl
-
-or_none : (b : Bool) → option_or (if b then Some row_seven else None) None ≡ (if b then Some row_seven else None)
-or_none true = refl
-or_none false = refl
-
-pub active_seven_fits : Fits prim_reading ((row_seven ∷ []) ∷ []) (wanted_rows with_seven)
-unfolding newest_at entry_at
-active_seven_fits k = ap (unless_anti prim_reading) (or_none (eq_by_cmp nat_cmp 7 k)) ∙ unless_found k ∙ found_seven k
-
-pub placed_seven_fits : Fits prim_reading ([] ∷ ((row_seven ∷ []) ∷ [])) (wanted_rows with_seven)
-unfolding newest_at entry_at
-placed_seven_fits k = ap (unless_anti prim_reading) (or_none (eq_by_cmp nat_cmp 7 k)) ∙ unless_found k ∙ found_seven k
+pub row_beside : table_row with_both 7 ≡ Some seven
+row_beside = ap (option_map (λ (place : Place). row_at (7, place))) seven_beside

@@ -1,17 +1,18 @@
 -- Which commands events are, and what became of them. A command is carried out by events one after another: its own one, which
 -- the table answers, and upkeep.
 use Rattle.std.specs.Prelude.{◌≡◌, ◌⊎◌, ℕ, ◌≤◌, Bool, true, false, if◌then◌else◌, List, [], ◌∷◌, ◌++◌, Contains, Option, Some, None, Result, Ok, Err}
-use Rattle.std.specs.Option.{option_map}
+use Rattle.std.specs.Option.{option_map, option_to_list}
 use Rattle.geo_base.specs.declared.points.Point.{Point}
 use Rattle.table_model.specs.Table.{place_of}
-use Rattle.table_model.specs.Commands.{put, del, TableCommand, write, get, count, region, Command, on_table, flush, WriteReply, del_old, wrote, got, counted, rows, Outcome, answered, quiet, refused}
+use Rattle.table_model.specs.Commands.{put, del, TableCommand, write, get, count, region, Command, on_table, flush, WriteReply, wrote, got, counted, rows, Outcome, answered, quiet, refused}
 use Rattle.table_model.specs.Answers.{put_reply, del_reply}
 use Rattle.table_model.specs.declared.Why.{Why}
 use Rattle.table_model.specs.declared.Why.TheVariants as why
 use Rattle.wal_log.specs.declared.records.LogOp.{LogOp}
 use Rattle.wal_log.specs.declared.records.LogOp.TheVariants.{Put, Del}
 use Rattle.image_model.specs.Recovered.{write_of}
-use Rattle.store_machine.specs.Machine.{Group, group_of}
+use Rattle.store_machine.specs.Outcomes.{Group}
+use Rattle.store_machine.specs.Machine.{group_of}
 use Rattle.store_machine.specs.Needs.{place_in}
 use Rattle.store_machine.specs.declared.events.Wrote.{Wrote}
 use Rattle.store_machine.specs.declared.events.Got.{Got}
@@ -34,8 +35,8 @@ is_upkeep (action.Look look) = true
 is_upkeep (action.Region kind rect answer) = false
 is_upkeep (action.Freeze least answer) = true
 is_upkeep (action.Begin answer) = true
-is_upkeep (action.JobWrite row answer) = true
-is_upkeep (action.Install row answer) = true
+is_upkeep (action.JobWrite own answer) = true
+is_upkeep (action.Install own answer) = true
 
 -- the events of a command without its upkeep
 abbrev pub own : List Event → List Event
@@ -59,9 +60,18 @@ refusal_of (action.Get key (Err refusal)) = Some refusal
 refusal_of (action.Region kind rect (Err refusal)) = Some refusal
 refusal_of (action.Freeze least (Err refusal)) = Some refusal
 refusal_of (action.Begin (Err refusal)) = Some refusal
-refusal_of (action.JobWrite row (Err refusal)) = Some refusal
-refusal_of (action.Install row (Err refusal)) = Some refusal
+refusal_of (action.JobWrite own (Err refusal)) = Some refusal
+refusal_of (action.Install own (Err refusal)) = Some refusal
 refusal_of other = None
+
+-- the words of the refusals that events answered
+abbrev pub words_of : Option Refusal → List Why
+words_of None = []
+words_of (Some refusal) = option_to_list (word_of refusal)
+
+abbrev pub words : List Event → List Why
+words [] = []
+words (e ∷ es) = words_of (refusal_of e.action) ++ words es
 
 -- an event was refused with this word
 pub record IsRefusedWith (word : Why) (a : Action) : Type 0 where
@@ -168,18 +178,6 @@ DoesAll [] [] es = es ≡ []
 DoesAll [] (o ∷ os) es = ⊥
 DoesAll (c ∷ cs) [] es = ⊥
 DoesAll (c ∷ cs) (o ∷ os) es = (its : List Event) × (rest : List Event) × (es ≡ its ++ rest) × Does c o its × DoesAll cs os rest
-
--- a put that is answered is logged, and a delete that took a row away
-abbrev pub logged_by : Command → Outcome → List Group
-logged_by (on_table (write (put row))) (answered seq reply) = (put row ∷ []) ∷ []
-logged_by (on_table (write (del key))) (answered seq (wrote (del_old point note))) = (del key ∷ []) ∷ []
-logged_by c o = []
-
--- what was logged by the answered writes of these commands, in order
-abbrev pub logged_groups : List Command → List Outcome → List Group
-logged_groups [] os = []
-logged_groups (c ∷ cs) [] = []
-logged_groups (c ∷ cs) (o ∷ os) = logged_by c o ++ logged_groups cs os
 
 -- the group that was being logged when a write or a sync of the device failed, if one was
 abbrev pub stopped_group : Option Group → List Event → Option Group

@@ -3,7 +3,7 @@ use Rattle.std.specs.Prelude.{◌⊎◌, ℕ, suc, ◌+◌, ◌<◌, nat_le, Lis
 use Rattle.dev_model.specs.Story.{Bytes}
 use Rattle.table_model.specs.Table.{Table}
 use Rattle.component_image.specs.Recovered.{Recovers}
-use Rattle.store_machine.specs.Machine.{Group, after_groups}
+use Rattle.store_machine.specs.Outcomes.{Group, after_groups}
 
 -- how many were acknowledged at the moment
 abbrev pub acked_by : ℕ → List ℕ → ℕ

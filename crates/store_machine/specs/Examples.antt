@@ -1,7 +1,7 @@
 -- Worked examples: a store that is opened with no row, and events of it. No public contract but those of the examples needs
 -- this file.
 use Rattle.std.specs.Prelude.{ℕ, ◌+◌, Bool, true, false, List, [], ◌∷◌, ◌++◌, Option, Some, None, Ok, Err, codes}
-use Rattle.std.specs.FinMap.{empty}
+use Rattle.std.specs.FinMap.{empty, insert}
 use Rattle.dev_model.specs.DeviceCalls.{made_at}
 use Rattle.dev_model.specs.declared.calls.DeviceCall.{DeviceCall}
 use Rattle.dev_model.specs.declared.calls.DeviceAct.TheVariants.{ReadAt, WriteAt, SyncAll}
@@ -11,9 +11,11 @@ use Rattle.table_model.specs.Commands as command
 use Rattle.wal_log.specs.declared.log.Log.{Log}
 use Rattle.wal_log.specs.declared.records.LogOp.TheVariants.{Put, Del}
 use Rattle.image_model.specs.declared.places.TheConstants.{LOG_START}
+use Rattle.comp_dir.specs.declared.slots.Slot.{Slot}
+use Rattle.primary_ix.specs.Wanted.{matter_row}
 use Rattle.store_state.specs.Lists.{Lists}
-use Rattle.store_state.specs.declared.jobs.JobRow.{JobRow}
 use Rattle.store_machine.specs.Machine.{Opening}
+use Rattle.store_machine.specs.declared.events.OwnedJob.{OwnedJob}
 use Rattle.store_machine.specs.declared.events.Refusal.{Refusal}
 use Rattle.store_machine.specs.declared.events.Refusal.TheVariants.{Fault, Damaged}
 use Rattle.store_machine.specs.declared.events.Action.{Action}
@@ -39,7 +41,7 @@ no_lists = record {
 }
 
 abbrev pub start : Opening
-start = record { table = empty; log = empty_log; lists = no_lists; declared = 1; faults = 0; clock = 20 }
+start = record { table = empty; log = empty_log; lists = no_lists; disk = []; declared = 1; faults = 0; clock = 20; story = None }
 
 abbrev pub seven : Row
 seven = record { key = 7; point = record { x = 3; y = 4 }; note = codes "a" }
@@ -150,8 +152,17 @@ abbrev pub frozen : (clock header : ℕ) → Event
 frozen clock header = event (Freeze 1 (Ok true)) (gated_write clock header 64) (clock + 4)
 
 -- the job of a list of one row, of which so many pages are written: in the first data page, for the first slot
-abbrev pub job : (written : ℕ) → JobRow
-job written = record { owner = 1; plan = record { index = 0; extent = record { first = 265; pages = 1 }; slot = 0 }; written = written }
+abbrev pub job : (written : ℕ) → OwnedJob
+job written = record {
+  owner = 1;
+  job = record {
+    rows = matter_row seven ∷ [];
+    plan = record { index = 0; extent = record { first = 265; pages = 1 }; slot = 0 };
+    interval = record { first_lsn = 1; last_lsn = 1 };
+    table_rows = 1;
+    written = written;
+  };
+}
 
 abbrev pub begun : (clock : ℕ) → Event
 begun clock = event (Begin (Ok (Some (job 0)))) [] clock
@@ -227,3 +238,36 @@ failed_get = record {
   faults_after = 1;
   clock_after = 21;
 }
+
+-- A device with two components of one row each, of which the newer one, on page 266, has key 8, and the older one, on page 265, key 7.
+abbrev pub eight : Row
+eight = record { key = 8; point = record { x = 5; y = 6 }; note = codes "b" }
+
+abbrev pub slot_of : (page last : ℕ) → Slot
+slot_of page last = record {
+  index = 0;
+  first = page;
+  pages = 1;
+  first_lsn = last;
+  last_lsn = last;
+  main_rows = 1;
+  second_rows = 0;
+  second_at = 0;
+  filter_at = 0;
+  filter_bits = 0;
+  table_rows = last;
+}
+
+abbrev pub two_components : Opening
+two_components = record start {
+  table = insert (insert empty 7 (place_of seven)) 8 (place_of eight);
+  lists = record no_lists { cut = 2; components = (1, slot_of 266 2) ∷ (0, slot_of 265 1) ∷ []; rows = 2 };
+  disk = (matter_row eight ∷ []) ∷ (matter_row seven ∷ []) ∷ [];
+}
+
+-- key 7 by a read of both, and by a read of the newer one alone
+abbrev pub read_both : List Event
+read_both = got 0 (Some seven) (page_read 20 1089536 ++ page_read 21 1085440) 22 ∷ []
+
+abbrev pub read_newest : List Event
+read_newest = got 0 (Some seven) (page_read 20 1089536) 21 ∷ []

@@ -1,8 +1,11 @@
+pub mod Calls
 pub mod Commands
 pub mod Crash
+pub mod Devices
 pub mod Examples
 pub mod Laws
 pub mod Machine
 pub mod Needs
+pub mod Outcomes
 pub mod Runs
 pub mod Standing

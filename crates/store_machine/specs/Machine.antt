@@ -1,26 +1,27 @@
 -- The machine of a store that flushes: its state, and what an event does to it.
 use Rattle.std.specs.Prelude.{ℕ, ◌+◌, ◌-◌, Bool, true, false, List, [], ◌∷◌, ◌++◌, Option, Some, None, is_some, Ok, Err, if◌then◌else◌, set}
 use Rattle.dev_model.specs.Counts.{next_count}
+use Rattle.dev_model.specs.Story.{Story}
 use Rattle.dev_model.specs.declared.calls.DeviceCall.{DeviceCall}
 use Rattle.table_model.specs.Table.{Table}
-use Rattle.table_model.specs.Commands.{Write as TableWrite}
 use Rattle.table_model.specs.Answers.{after_write}
 use Rattle.wal_log.specs.State.{following}
 use Rattle.wal_log.specs.declared.log.Log.{Log}
 use Rattle.wal_log.specs.declared.records.LogOp.{LogOp}
 use Rattle.wal_log.specs.declared.records.LogOp.TheVariants.{Put, Del}
-use Rattle.image_model.specs.Recovered.{write_of, after_writes}
+use Rattle.image_model.specs.Recovered.{write_of}
 use Rattle.primary_ix.specs.Wanted.{written_row}
+use Rattle.primary_ix.specs.declared.rows.PrimRow.{PrimRow}
+use Rattle.store_state.specs.Beginning.{fresh}
 use Rattle.store_state.specs.Lists.{Lists}
 use Rattle.store_state.specs.Steps.{added, frozen_at, begun, one_written, installed}
+use Rattle.store_machine.specs.Outcomes.{Group}
+use Rattle.store_state.specs.declared.jobs.JobRow.{JobRow}
+use Rattle.store_machine.specs.declared.events.OwnedJob.{OwnedJob}
 use Rattle.store_machine.specs.declared.events.Wrote.{Wrote}
 use Rattle.store_machine.specs.declared.events.Action.{Action}
 use Rattle.store_machine.specs.declared.events.Action.TheVariants.{Write, Get, Count, Look, Region, Freeze, Begin, JobWrite, Install}
 use Rattle.store_machine.specs.declared.events.Event.{Event}
-
--- writes that are logged together
-abbrev pub Group : Type 0
-Group = List TableWrite
 
 pub record Machine : Type 0 where
   pub table : Table
@@ -33,6 +34,8 @@ pub record Machine : Type 0 where
   -- the end of the log, and what is in memory of the rows
   pub log : Log
   pub lists : Lists
+  -- the lists that the components' pages show, the newest first, where the device tells them
+  pub disk : List (List PrimRow)
   -- the number of the next answer
   pub seq : ℕ
   -- the declared indexes, as bits
@@ -47,9 +50,13 @@ pub record Opening : Type 0 where
   pub table : Table
   pub log : Log
   pub lists : Lists
+  -- the lists that the components' pages show, where the device tells them
+  pub disk : List (List PrimRow)
   pub declared : ℕ
   pub faults : ℕ
   pub clock : ℕ
+  -- where the device tells it
+  pub story : Option Story
 
 -- the machine when nothing has happened yet
 abbrev pub at_opening : Opening → Machine
@@ -61,6 +68,7 @@ at_opening o = record {
   unfinished = None;
   log = o.log;
   lists = o.lists;
+  disk = o.disk;
   seq = 0;
   declared = o.declared;
   faults = o.faults;
@@ -93,6 +101,10 @@ after_logged op had ack m = record m {
 abbrev pub after_answer : Machine → Machine
 after_answer m = record m { seq = next_count m.seq }
 
+-- what the lists keep of a job
+abbrev pub row_of : OwnedJob → JobRow
+row_of own = record { owner = own.owner; plan = own.job.plan; written = own.job.written }
+
 -- what an event does beside its device calls, its faults and its time
 abbrev pub does : Action → Machine → Machine
 does (Write op (Ok wrote)) m =
@@ -108,13 +120,13 @@ does (Region kind rect (Err refusal)) m = m
 does (Freeze least (Ok true)) m = record m { log = log_turned m.log; lists = frozen_at (m.log.next_lsn - 1) m.lists }
 does (Freeze least (Ok false)) m = m
 does (Freeze least (Err refusal)) m = m
-does (Begin (Ok (Some row))) m = record m { lists = begun row m.lists }
+does (Begin (Ok (Some own))) m = record m { lists = begun (fresh own.owner own.job.plan) m.lists }
 does (Begin (Ok None)) m = m
 does (Begin (Err refusal)) m = m
-does (JobWrite row (Ok done)) m = record m { lists = one_written m.lists }
-does (JobWrite row (Err refusal)) m = m
-does (Install row (Ok done)) m = record m { lists = installed row m.lists }
-does (Install row (Err refusal)) m = m
+does (JobWrite own (Ok done)) m = record m { lists = one_written m.lists }
+does (JobWrite own (Err refusal)) m = m
+does (Install own (Ok done)) m = record m { lists = installed (row_of own) m.lists; disk = own.job.rows ∷ m.disk }
+does (Install own (Err refusal)) m = m
 
 -- the group that an event logs
 abbrev pub group_of : Action → Option Group
@@ -137,8 +149,3 @@ after_event m e =
 abbrev pub after_all : Machine → List Event → Machine
 after_all m [] = m
 after_all m (e ∷ es) = after_all (after_event m e) es
-
--- the table after these groups
-abbrev pub after_groups : Table → List Group → Table
-after_groups t [] = t
-after_groups t (g ∷ gs) = after_groups (after_writes t g) gs

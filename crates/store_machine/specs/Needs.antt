@@ -19,10 +19,11 @@ use Rattle.store_machine.specs.declared.events.Look.{Look}
 use Rattle.store_machine.specs.declared.events.Found.{Found}
 use Rattle.store_machine.specs.declared.events.Refusal.{Refusal}
 use Rattle.store_machine.specs.declared.events.Refusal.TheVariants.{Fault, Stopped, Full, Again, NoIndex, Damaged, OutOfMemory}
-use Rattle.store_state.specs.Beginning.{IsRefused, MayBegin}
+use Rattle.store_state.specs.Beginning.{IsRefused, MayBegin, fresh}
 use Rattle.store_state.specs.declared.faults.BeginFault.TheVariants as begin
-use Rattle.store_state.specs.declared.jobs.JobRow.{JobRow}
-use Rattle.store_state.specs.Lists.{placed_up_to}
+use Rattle.store_state.specs.Lists.{job_of, placed_up_to}
+use Rattle.store_state.specs.OwnJob.{IsJobOf}
+use Rattle.store_machine.specs.declared.events.OwnedJob.{OwnedJob}
 use Rattle.store_machine.specs.declared.events.Action.{Action}
 use Rattle.store_machine.specs.declared.events.Action.TheVariants as action
 
@@ -117,15 +118,15 @@ RefusesBegin m (Full need longest) = IsWaiting m × IsRefused m.lists (begin.Ful
 RefusesBegin m OutOfMemory = IsWaiting m × IsRefused m.lists begin.OutOfMemory
 RefusesBegin m other = ⊥
 
--- the job that was begun, with pages that aren't written
-pub record IsWriting (m : Machine) (row : JobRow) : Type 0 where
-  pub job : m.lists.job ≡ Some row
-  pub left : row.written < row.plan.extent.pages
+-- the owner's job at its step, with pages that aren't written
+pub record IsWriting (m : Machine) (own : OwnedJob) : Type 0 where
+  pub begun : IsJobOf m.lists own.owner own.job
+  pub left : own.job.written < own.job.plan.extent.pages
 
--- the job that was begun, with all its pages
-pub record IsWrittenOut (m : Machine) (row : JobRow) : Type 0 where
-  pub job : m.lists.job ≡ Some row
-  pub none_left : row.written ≡ row.plan.extent.pages
+-- the owner's job with all its pages
+pub record IsWrittenOut (m : Machine) (own : OwnedJob) : Type 0 where
+  pub begun : IsJobOf m.lists own.owner own.job
+  pub none_left : own.job.written ≡ own.job.plan.extent.pages
 
 -- a step of a job that is refused
 abbrev pub RefusesStep : Machine → Refusal → Type 0
@@ -145,10 +146,10 @@ Needs known m (action.Region kind rect (Err refusal)) = RefusesRegion known m ki
 Needs known m (action.Freeze least (Ok true)) = MayFreeze m least
 Needs known m (action.Freeze least (Ok false)) = (m.stopped ≡ None) × ((m.log.records < least) ⊎ (m.lists.frozen ≢ None))
 Needs known m (action.Freeze least (Err refusal)) = RefusesFreeze m least refusal
-Needs known m (action.Begin (Ok (Some row))) = (m.stopped ≡ None) × MayBegin m.lists row.plan × (row.written ≡ 0)
+Needs known m (action.Begin (Ok (Some own))) = (m.stopped ≡ None) × MayBegin m.lists own.job.plan × (own.job ≡ job_of m.lists (fresh own.owner own.job.plan))
 Needs known m (action.Begin (Ok None)) = (m.stopped ≡ None) × (m.lists.frozen ≡ None)
 Needs known m (action.Begin (Err refusal)) = RefusesBegin m refusal
-Needs known m (action.JobWrite row (Ok done)) = (m.stopped ≡ None) × IsWriting m row
-Needs known m (action.JobWrite row (Err refusal)) = IsWriting m row × RefusesStep m refusal
-Needs known m (action.Install row (Ok done)) = (m.stopped ≡ None) × IsWrittenOut m row
-Needs known m (action.Install row (Err refusal)) = IsWrittenOut m row × RefusesStep m refusal
+Needs known m (action.JobWrite own (Ok done)) = (m.stopped ≡ None) × IsWriting m own
+Needs known m (action.JobWrite own (Err refusal)) = IsWriting m own × RefusesStep m refusal
+Needs known m (action.Install own (Ok done)) = (m.stopped ≡ None) × IsWrittenOut m own
+Needs known m (action.Install own (Err refusal)) = IsWrittenOut m own × RefusesStep m refusal

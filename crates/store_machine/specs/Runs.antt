@@ -5,29 +5,24 @@ use Rattle.dev_model.specs.DeviceCalls.{made_at, ok_calls}
 use Rattle.dev_model.specs.declared.calls.DeviceCall.{DeviceCall}
 use Rattle.dev_model.specs.declared.calls.DeviceAct.TheVariants.{WriteAt, SyncAll}
 use Rattle.page_codec.specs.declared.pages.TheConstants.{PAGE_BYTES}
-use Rattle.order_merge.specs.Entries.{Fits}
-use Rattle.order_merge.specs.Views.{lists_of}
-use Rattle.tree_shape.specs.Asked.{given}
-use Rattle.device_pages.specs.Asked.{reads_made}
+use Rattle.tree_shape.specs.Given.{given}
+use Rattle.device_pages.specs.ReadsMade.{reads_made}
 use Rattle.device_pages.specs.Lending.{is_lent}
 use Rattle.wal_log.specs.Places.{record_start}
 use Rattle.wal_log.specs.Records.{key_of}
 use Rattle.wal_log.specs.State.{newest, turn_calls}
 use Rattle.wal_log.specs.declared.log.Log.{Log}
 use Rattle.wal_log.specs.declared.places.TheConstants.{RECORD_BYTES}
-use Rattle.comp_dir.specs.State.{install_calls}
+use Rattle.comp_dir.specs.Resting.{install_calls}
 use Rattle.primary_ix.specs.Components.{AreRoots}
 use Rattle.primary_ix.specs.Lookups.{view_pages}
-use Rattle.primary_ix.specs.Rows.{prim_reading}
 use Rattle.primary_ix.specs.Scans.{scan_pages}
-use Rattle.primary_ix.specs.Wanted.{wanted_rows}
 use Rattle.primary_ix.specs.declared.rows.PrimRow.{PrimRow}
-use Rattle.build_job.specs.Jobs.{described}
+use Rattle.build_job.specs.Jobs.{Job, described}
 use Rattle.store_machine.specs.Machine.{is_logged, Machine, after_event}
 use Rattle.store_machine.specs.declared.events.Refusal.{Refusal}
 use Rattle.store_machine.specs.declared.events.Refusal.TheVariants.{Fault, NoIndex, Damaged}
-use Rattle.store_state.specs.declared.jobs.JobRow.{JobRow}
-use Rattle.store_state.specs.Lists.{Lists, extents_of, trees_of, job_of}
+use Rattle.store_state.specs.Lists.{Lists, extents_of, trees_of}
 use Rattle.store_machine.specs.Needs.{Needs}
 use Rattle.store_machine.specs.declared.events.Action.{Action}
 use Rattle.store_machine.specs.declared.events.Action.TheVariants.{Write, Get, Count, Look, Region, Freeze, Begin, JobWrite, Install}
@@ -46,12 +41,16 @@ way_to key l disk roots = view_pages key l.active l.frozen (trees_of l.component
 abbrev pub way_to_all : Lists → Way
 way_to_all l disk roots = scan_pages (trees_of l.components) disk roots
 
--- which pages of a way were read: all, or the first few; after a fault the read of the next one failed
+-- which pages of a way were read: all, or the first few; where a page was damaged, up to that one; after a fault the read of the next
+-- one failed
 abbrev pub IsAllOf : (pages all : List ℕ) → Type 0
 IsAllOf pages all = pages ≡ all
 
 abbrev pub IsFirstOf : (pages all : List ℕ) → Type 0
 IsFirstOf pages all = (left : List ℕ) × (pages ++ left ≡ all)
+
+abbrev pub IsFrontUpTo : (page : ℕ) → (pages all : List ℕ) → Type 0
+IsFrontUpTo page pages all = ((before : List ℕ) × (pages ≡ before ++ page ∷ [])) × IsFirstOf pages all
 
 abbrev pub StopsBefore : (pages all : List ℕ) → Type 0
 StopsBefore pages all = (page : ℕ) × (left : List ℕ) × (pages ++ page ∷ left ≡ all)
@@ -59,17 +58,15 @@ StopsBefore pages all = (page : ℕ) × (left : List ℕ) × (pages ++ page ∷ 
 abbrev pub IsPartOf : {X : Type 0} → Result X Refusal → List ℕ → List ℕ → Type 0
 IsPartOf (Ok x) = IsAllOf
 IsPartOf (Err Fault) = StopsBefore
+IsPartOf (Err (Damaged page)) = IsFrontUpTo page
 IsPartOf (Err refusal) = IsFirstOf
 
--- These device calls read pages of the components, one after another, on their way through lists that with those in memory are the
--- table's.
+-- These device calls read pages of the components, one after another, on their way through the lists that are there.
 pub record AreReads (m : Machine) (way : Lists → Way) (IsPart : (pages all : List ℕ) → Type 0) (calls : List DeviceCall) : Type 0 where
   pub pages : List ℕ
   pub lent : All (λ page. IsTrue (is_lent (extents_of m.lists.components) page)) pages
   pub are : calls ≡ reads_made m.clock (given pages)
-  pub disk : List (List PrimRow)
-  pub fits : Fits prim_reading (lists_of m.lists.active m.lists.frozen disk) (wanted_rows m.table)
-  pub part : (roots : List ℕ) → AreRoots (trees_of m.lists.components) roots → IsPart pages (way m.lists disk roots)
+  pub part : (roots : List ℕ) → AreRoots (trees_of m.lists.components) roots → IsPart pages (way m.lists m.disk roots)
 
 -- of all these device calls the first succeeded, and the next one failed
 pub record IsFront (all calls : List DeviceCall) : Type 0 where
@@ -111,9 +108,9 @@ abbrev pub FailsWrite : (write_failed : Bool) → Machine → (key : ℕ) → Li
 FailsWrite true m key calls = IsFrontBehindReads m key calls
 FailsWrite false m key calls = AreReads m (way_to key) StopsBefore calls
 
--- the write of a page
-abbrev pub page_write : (clock : ℕ) → JobRow → List DeviceCall
-page_write clock row = made_at (clock + 1) (WriteAt ((row.plan.extent.first + row.written) * PAGE_BYTES) PAGE_BYTES) ∷ []
+-- the write of a job's next page
+abbrev pub page_write : (clock : ℕ) → Job → List DeviceCall
+page_write clock job = made_at (clock + 1) (WriteAt ((job.plan.extent.first + job.written) * PAGE_BYTES) PAGE_BYTES) ∷ []
 
 -- it was answered that the device failed
 abbrev pub is_fault : Action → Bool
@@ -121,8 +118,8 @@ is_fault (Write op (Err Fault)) = true
 is_fault (Get key (Err Fault)) = true
 is_fault (Region kind rect (Err Fault)) = true
 is_fault (Freeze least (Err Fault)) = true
-is_fault (JobWrite row (Err Fault)) = true
-is_fault (Install row (Err Fault)) = true
+is_fault (JobWrite own (Err Fault)) = true
+is_fault (Install own (Err Fault)) = true
 is_fault other = false
 
 -- The device calls of an event, in which a write or a sync failed or none did: one that was answered made all of its row, one in which
@@ -130,7 +127,7 @@ is_fault other = false
 abbrev pub MakesCalls : Machine → Action → (write_failed : Bool) → List DeviceCall → Type 0
 MakesCalls m (Write op (Ok wrote)) write_failed calls = MakesWrite (is_logged op wrote) m (key_of op) calls
 MakesCalls m (Write op (Err Fault)) write_failed calls = FailsWrite write_failed m (key_of op) calls
-MakesCalls m (Write op (Err (Damaged page))) write_failed calls = AreReads m (way_to (key_of op)) IsFirstOf calls
+MakesCalls m (Write op (Err (Damaged page))) write_failed calls = AreReads m (way_to (key_of op)) (IsFrontUpTo page) calls
 MakesCalls m (Write op (Err refusal)) write_failed calls = calls ≡ []
 MakesCalls m (Get key answer) write_failed calls = AreReads m (way_to key) (IsPartOf answer) calls
 MakesCalls m (Count seq rows) write_failed calls = calls ≡ []
@@ -142,11 +139,11 @@ MakesCalls m (Freeze least (Ok false)) write_failed calls = calls ≡ []
 MakesCalls m (Freeze least (Err Fault)) write_failed calls = IsFront (ok_calls m.clock (turn_calls m.log)) calls
 MakesCalls m (Freeze least (Err refusal)) write_failed calls = calls ≡ []
 MakesCalls m (Begin answer) write_failed calls = calls ≡ []
-MakesCalls m (JobWrite row (Ok done)) write_failed calls = calls ≡ page_write m.clock row
-MakesCalls m (JobWrite row (Err refusal)) write_failed calls = calls ≡ []
-MakesCalls m (Install row (Ok done)) write_failed calls = calls ≡ ok_calls m.clock (install_calls row.plan.slot (described (job_of m.lists row)))
-MakesCalls m (Install row (Err Fault)) write_failed calls = IsFront (ok_calls m.clock (install_calls row.plan.slot (described (job_of m.lists row)))) calls
-MakesCalls m (Install row (Err refusal)) write_failed calls = calls ≡ []
+MakesCalls m (JobWrite own (Ok done)) write_failed calls = calls ≡ page_write m.clock own.job
+MakesCalls m (JobWrite own (Err refusal)) write_failed calls = calls ≡ []
+MakesCalls m (Install own (Ok done)) write_failed calls = calls ≡ ok_calls m.clock (install_calls own.job.plan.slot (described own.job))
+MakesCalls m (Install own (Err Fault)) write_failed calls = IsFront (ok_calls m.clock (install_calls own.job.plan.slot (described own.job))) calls
+MakesCalls m (Install own (Err refusal)) write_failed calls = calls ≡ []
 
 -- The clock after an event: it counts each device call that succeeded, and where one failed it may count that one too.
 abbrev pub TakesTime : (fault : Bool) → (clock : ℕ) → List DeviceCall → (clock_after : ℕ) → Type 0
@@ -158,8 +155,8 @@ TakesTime true clock calls clock_after = (clock + length calls ≤ clock_after) 
 abbrev pub Stops : Action → (write_failed : Bool) → Type 0
 Stops (Write op (Err Fault)) write_failed = Unit {0}
 Stops (Freeze least (Err Fault)) write_failed = write_failed ≡ true
-Stops (JobWrite row (Err Fault)) write_failed = write_failed ≡ true
-Stops (Install row (Err Fault)) write_failed = write_failed ≡ true
+Stops (JobWrite own (Err Fault)) write_failed = write_failed ≡ true
+Stops (Install own (Err Fault)) write_failed = write_failed ≡ true
 Stops other write_failed = write_failed ≡ false
 
 -- an acknowledged write has the clock behind its last sync, and one that had nothing to log has 0
@@ -169,9 +166,9 @@ Acknowledges other clock = Unit {0}
 
 -- a job is begun for the one who asks
 abbrev pub IsOwned : Action → (owner : Option ℕ) → Type 0
-IsOwned (Begin (Ok (Some row))) owner = owner ≡ Some row.owner
-IsOwned (JobWrite row answer) owner = owner ≡ Some row.owner
-IsOwned (Install row answer) owner = owner ≡ Some row.owner
+IsOwned (Begin (Ok (Some own))) owner = owner ≡ Some own.owner
+IsOwned (JobWrite own answer) owner = owner ≡ Some own.owner
+IsOwned (Install own answer) owner = owner ≡ Some own.owner
 IsOwned other owner = Unit {0}
 
 -- an event is allowed where it stands

@@ -1,9 +1,9 @@
 // What happens at a store, as plain data by which contracts speak. No value of `Event` or `Action` is made.
 
+use build_job::BuildJob;
 use dev_model::calls::DeviceCall;
 use geo_base::{IndexKind, Note, Point, Rect, Row};
 use std::collections::LinkedList;
-use store_state::JobRow;
 use wal_log::LogOp;
 
 /// A write of the store: it lays a row at its key, or takes away what is there.
@@ -71,6 +71,13 @@ pub struct Found {
     pub rows: LinkedList<Row>,
 }
 
+/// A job as its owner has it: whose it is, and its value, that is the rows, where they go, which writes they are, and how many
+/// pages are written.
+pub struct OwnedJob {
+    pub owner: u64,
+    pub job: BuildJob,
+}
+
 /// A call with its arguments and its answer.
 pub enum Action {
     Write(WriteOp, Result<Wrote, Refusal>),
@@ -82,11 +89,11 @@ pub enum Action {
     /// At how many writes the active list is to be frozen, and whether it was.
     Freeze(u32, Result<bool, Refusal>),
     /// The job that was begun, if there was something to do.
-    Begin(Result<Option<JobRow>, Refusal>),
-    /// The job of which the next page was written.
-    JobWrite(JobRow, Result<(), Refusal>),
+    Begin(Result<Option<OwnedJob>, Refusal>),
+    /// The job of which the next page was written, as it was before.
+    JobWrite(OwnedJob, Result<(), Refusal>),
     /// The job whose component was installed.
-    Install(JobRow, Result<(), Refusal>),
+    Install(OwnedJob, Result<(), Refusal>),
 }
 
 /// One call of a store: by whom it was made, what was answered, and what it did on the device.

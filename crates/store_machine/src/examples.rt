@@ -5,16 +5,18 @@ ghost use Rattle.table_model.specs.declared.Why.TheVariants.{NoIndex as no_index
 ghost use Rattle.store_machine.specs.Machine.{at_opening, after_all};
 ghost use Rattle.store_machine.specs.Runs.{IsRun};
 ghost use Rattle.store_machine.specs.Commands.{Does, DoesAll};
-ghost use Rattle.store_machine.specs.Examples.{start, worked, put_with, put_seven, log_write, gated_write, page_read, got, other, seven, counted, failed_put, failed_with, refused_put, answered_put, logged_del, frozen, begun, page_written, installed, early_gate, put_and_begun, unplaced_flush, flushed, unread, read_too_much, idle, put_behind, damaged_get, put_command, get_command, script, outcomes, failed_get};
+ghost use Rattle.store_machine.specs.Examples.{start, worked, put_with, put_seven, log_write, gated_write, page_read, got, other, seven, counted, failed_put, failed_with, refused_put, answered_put, logged_del, frozen, begun, page_written, installed, early_gate, put_and_begun, unplaced_flush, flushed, unread, read_too_much, idle, put_behind, damaged_get, put_command, get_command, script, outcomes, failed_get, two_components, read_both, read_newest};
 ghost use Rattle.store_machine.specs.declared.events.Refusal.TheVariants.{Stopped, Again, NoIndex};
 
 /// Worked runs: a row is put, asked for, taken out, and none is counted; a put that fails and one that is refused for it; and
-/// a row that is put, flushed and read from its component, after which nothing is there to freeze or to begin.
+/// a row that is put, flushed and read from its component, after which nothing is there to freeze or to begin; and a row that
+/// the older of two components has.
 pub fn worked_runs()
     ensures worked { IsRun true (at_opening start) worked }
     ensures stopped { IsRun true (at_opening start) (failed_put ∷ refused_put (Stopped 1) 1 22 ∷ []) }
     ensures flushed { IsRun true (at_opening start) flushed }
     ensures idle { IsRun true (after_all (at_opening start) flushed) (idle 34) }
+    ensures both_components { IsRun true (at_opening two_components) read_both }
 {}
 
 /// Lists of events that are no runs, each for one reason.
@@ -44,6 +46,7 @@ pub fn refused_runs()
     ensures page_of_no_component { IsRun true (at_opening start) (put_seven ∷ got 1 (Some seven) (page_read 24 1085440) 25 ∷ []) → ⊥ }
     ensures component_unread { IsRun true (at_opening start) unread → ⊥ }
     ensures component_read_for_a_row_in_memory { IsRun true (at_opening start) read_too_much → ⊥ }
+    ensures pages_of_other_lists { IsRun true (at_opening two_components) read_newest → ⊥ }
     ensures damaged_on_a_device_that_tells { IsRun true (at_opening start) (damaged_get ∷ []) → ⊥ }
 {}
 

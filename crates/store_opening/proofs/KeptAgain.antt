@@ -10,11 +10,13 @@ use Rattle.dev_model.specs.Story.{Bytes, Story, bytes_of, IsCalmAt}
 use Rattle.dev_model.specs.Moments.{ReadsWithin}
 use Rattle.table_model.specs.Table.{Table, Place, rows_of, row_at}
 use Rattle.table_model.specs.Answers.{after_write}
-use Rattle.wal_log.specs.Later.{later, up_to}
+use Rattle.wal_log.specs.Later.{later}
+use Rattle.wal_log.specs.UpTo.{up_to}
 use Rattle.wal_log.specs.Records.{record_of}
 use Rattle.wal_log.specs.Segments.{Segments, segments_of}
 use Rattle.wal_log.specs.Rules.{Opens as LogOpens, Numbered as NumberedSegment, first_lsn_of, AreSound, in_order, records_in, records_of}
-use Rattle.wal_log.specs.State.{IsCounted, IsLogOf, HasLast}
+use Rattle.wal_log.specs.State.{IsLogOf, HasLast}
+use Rattle.wal_log.specs.Counted.{IsCounted}
 use Rattle.wal_log.specs.Laws.Later.{AreNumbered, numbered, numbered-end, length-bodies, later-whole, later-split}
 use Rattle.wal_log.specs.declared.log.Log.{Log}
 use Rattle.wal_log.specs.declared.records.Record.{Record}
@@ -34,11 +36,12 @@ use Rattle.component_image.specs.Content.{ShowAll, Count}
 use Rattle.component_image.specs.Laid.{table_of}
 use Rattle.component_image.specs.Recovered.{primary_of, Opens, IsLookedAt, IsContent, Recovers}
 use Rattle.component_image.specs.Resting.{Rests}
-use Rattle.component_image.specs.Told.{AreTold, counted}
+use Rattle.component_image.specs.Told.{AreTold}
+use Rattle.component_image.specs.Counted.{counted}
 use Rattle.component_image.specs.Laws.Components.{AllOf, AllOf-weaker, components-all}
 use Rattle.component_image.specs.Laws.Counting.{told-count, rows-below}
-use Rattle.store_state.specs.Lists.{Lists, placed_up_to, placed_rows}
-use Rattle.store_state.specs.Opened.{opened}
+use Rattle.store_state.specs.Lists.{Lists, placed_up_to}
+use Rattle.store_state.specs.Opened.{placed_rows, opened}
 use Rattle.store_state.specs.Steps.{frozen_at}
 use Rattle.kept_state.specs.Keeping.{IsKept}
 use Rattle.store_opening.specs.Read.{HasRead, HasSlots, AreLawfulSlots}

@@ -7,9 +7,11 @@ use Rattle.dev_model.specs.Counts.{Rose}
 use Rattle.dev_model.specs.Story.{Bytes, Story, after, bytes_of, WhereTold, IsCalmAt, IsSettled}
 use Rattle.dev_model.specs.Moments.{ReadsWithin}
 use Rattle.dev_model.specs.Laws.Reads.{ReadsWithin-then, ReadsWithin-weaker, bytes_of-reads, IsSettled-reads}
-use Rattle.wal_log.specs.Places.{ReadsLog, IsInLog}
+use Rattle.wal_log.specs.Places.{IsInLog}
+use Rattle.wal_log.specs.Reads.{ReadsLog}
 use Rattle.wal_log.specs.Segments.{segments_of}
-use Rattle.wal_log.specs.Rules.{Opens as LogOpens, IsBad, records_of}
+use Rattle.wal_log.specs.Rules.{Opens as LogOpens, records_of}
+use Rattle.wal_log.specs.Bad.{IsBad}
 use Rattle.wal_log.specs.State.{IsAtRest as LogAtRest, IsLogOf, IsStill}
 use Rattle.wal_log.specs.Found.{WhereBad as WhereBadLog, FaultRose as LogFaultRose}
 use Rattle.wal_log.specs.declared.reading.LogFault.{LogFault}
@@ -19,17 +21,19 @@ use Rattle.wal_log.specs.declared.records.Record.{Record}
 use Rattle.image_model.specs.Superblock.{IsFormatted, declared}
 use Rattle.image_model.specs.Opening.{IsLookedInSuperblock, IsLookedInLog, IsOpeningRange}
 use Rattle.image_model.specs.declared.places.TheConstants.{LOG_START}
-use Rattle.comp_dir.specs.Places.{ReadsDirectory, IsInDirectory}
+use Rattle.comp_dir.specs.Reads.{ReadsDirectory, IsInDirectory}
 use Rattle.comp_dir.specs.Directory.{Numbered, directory_of, open_slots, IsLooked}
-use Rattle.comp_dir.specs.Rules.{AllObey, IsFirstUnsound}
+use Rattle.comp_dir.specs.Rules.{AllObey}
+use Rattle.comp_dir.specs.Bad.{IsFirstUnsound}
 use Rattle.comp_dir.specs.Choosing.{bad_slot}
-use Rattle.comp_dir.specs.State.{IsAtRest as DirectoryAtRest}
+use Rattle.comp_dir.specs.Resting.{IsAtRest as DirectoryAtRest}
 use Rattle.comp_dir.specs.Faults.{WhereBad as WhereBadSlot, FaultRose as SlotFaultRose, IsNotFailed}
 use Rattle.comp_dir.specs.declared.faults.DirFault.{DirFault}
 use Rattle.comp_dir.specs.declared.faults.DirFault.TheVariants as dir
 use Rattle.comp_dir.specs.declared.places.TheConstants.{LSN_LIMIT}
 use Rattle.component_image.specs.Recovered.{IsLookedAt}
-use Rattle.store_state.specs.Lists.{IsOpenSlot, placed_up_to}
+use Rattle.store_state.specs.Lists.{placed_up_to}
+use Rattle.store_state.specs.EveryList.{IsOpenSlot}
 use Rattle.store_opening.specs.Read.{HasRead, HasSlots, AreChosen, AreLawfulSlots, IsDirectoryRefusal, slots_fault, log_fault}
 use Rattle.store_opening.specs.Openings.{IsRefusal, HasFaulted}
 use Rattle.store_opening.specs.declared.opening.OpenFault.{OpenFault}

@@ -6,7 +6,8 @@ use Rattle.std.proofs.lemmas.List.{take_more}
 use Rattle.std.proofs.lemmas.List.Elements.{filter-append}
 use Rattle.geo_base.specs.declared.points.Point.{Point}
 use Rattle.space_map.specs.Space.{Space}
-use Rattle.wal_log.specs.Later.{later, up_to}
+use Rattle.wal_log.specs.Later.{later}
+use Rattle.wal_log.specs.UpTo.{up_to}
 use Rattle.wal_log.specs.declared.log.Log.{Log}
 use Rattle.wal_log.specs.declared.records.LogOp.{LogOp}
 use Rattle.wal_log.specs.declared.records.LogOp.TheVariants.{Put, Del}
@@ -15,7 +16,7 @@ use Rattle.image_model.specs.Recovered.{write_of}
 use Rattle.primary_ix.specs.declared.rows.PrimRow.{PrimRow}
 use Rattle.primary_ix.specs.Wanted.{written_row}
 use Rattle.component_image.specs.Changes.{changed}
-use Rattle.component_image.specs.Told.{counted, rows_after}
+use Rattle.component_image.specs.Counted.{counted, rows_after}
 use Rattle.comp_dir.specs.Directory.{Numbered}
 use Rattle.store_state.specs.Lists.{Lists, placed_up_to}
 use Rattle.store_state.specs.Opened.{opened}

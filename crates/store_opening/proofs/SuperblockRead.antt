@@ -2,7 +2,8 @@
 use Rattle.std.proofs.Common.{◌≡◌, Bool, true, false, nat_eq, inl, inr, ℕ, ◌+◌, ◌<◌, List, length, drop, slice_index, refl, sym, ◌∙◌, ap, subst, arith}
 use Rattle.std.proofs.lemmas.List.{length-drop}
 use Rattle.std.proofs.lemmas.Grind.{get_or_after_one}
-use Rattle.dev_model.specs.Story.{Story, bytes_of, part, IsCalmAt, IsReadFrom, IsReadable}
+use Rattle.dev_model.specs.Story.{Story, bytes_of, part, IsCalmAt, IsReadable}
+use Rattle.dev_model.specs.Answers.{IsReadFrom}
 use Rattle.std.specs.Bool.{OnTrue}
 use Rattle.std.specs.Cmp.Lexicographic.{same_text, pointwise}
 use Rattle.dev_model.specs.Laws.Ranges.{part-list}

@@ -3,11 +3,12 @@ use Rattle.std.specs.Prelude.{ℕ}
 use Rattle.dev_model.specs.Counts.{Rose}
 use Rattle.dev_model.specs.Story.{Bytes}
 use Rattle.wal_log.specs.Segments.{segments_of}
-use Rattle.wal_log.specs.Rules.{IsBad}
+use Rattle.wal_log.specs.Bad.{IsBad}
 use Rattle.image_model.specs.Superblock.{IsFormatted}
 use Rattle.image_model.specs.declared.places.TheConstants.{LOG_START}
 use Rattle.comp_dir.specs.Directory.{directory_of}
-use Rattle.comp_dir.specs.Choosing.{IsBadSlot, Opens as DirectoryOpens}
+use Rattle.comp_dir.specs.Choosing.{Opens as DirectoryOpens}
+use Rattle.comp_dir.specs.Bad.{IsBadSlot}
 use Rattle.component_image.specs.Recovered.{primary_of, ends_of}
 use Rattle.store_opening.specs.declared.opening.OpenFault.{OpenFault}
 use Rattle.store_opening.specs.declared.opening.OpenFault.TheVariants.{NotFormatted, BadSlot, BadLog, Fault, OutOfMemory}

@@ -1,10 +1,11 @@
 -- The lists of a store as an opening makes them again. No public contract needs this file.
 use Rattle.std.specs.Prelude.{ℕ, ◌-◌, ◌+◌, List, nat_lt, if◌then◌else◌}
-use Rattle.wal_log.specs.Later.{later, up_to}
+use Rattle.wal_log.specs.Later.{later}
+use Rattle.wal_log.specs.UpTo.{up_to}
 use Rattle.wal_log.specs.declared.log.Log.{Log}
 use Rattle.wal_log.specs.declared.records.Record.{Record}
 use Rattle.component_image.specs.Changes.{changed}
-use Rattle.component_image.specs.Told.{counted}
+use Rattle.component_image.specs.Counted.{counted}
 use Rattle.store_state.specs.Lists.{Lists}
 use Rattle.store_state.specs.Steps.{frozen_at}
 

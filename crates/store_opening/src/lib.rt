@@ -7,6 +7,3 @@ mod slots;
 mod superblock;
 
 pub use opening::{OpenFault, OpenedState, open_state};
-
-#[cfg(test)]
-mod tests;

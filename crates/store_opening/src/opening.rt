@@ -3,12 +3,14 @@ ghost use Rattle.std.specs.Prelude.{◌≡◌, ◌+◌, ◌≤◌, None, IfOk, I
 ghost use Rattle.dev_model.specs.Story.{WhereTold, bytes_of, IsCalmAt};
 ghost use Rattle.dev_model.specs.Moments.{ReadsWithin};
 ghost use Rattle.table_model.specs.Table.{Table};
-ghost use Rattle.wal_log.specs.State.{IsCounted};
+ghost use Rattle.wal_log.specs.Counted.{IsCounted};
 ghost use Rattle.image_model.specs.Opening.{IsOpeningRange};
 ghost use Rattle.image_model.specs.Superblock.{declared};
 ghost use Rattle.component_image.specs.Recovered.{Opens, IsLookedAt, IsContent, Recovers};
-ghost use Rattle.store_state.specs.Lists.{IsLists, placed_up_to};
-ghost use Rattle.kept_state.specs.Keeping.{IsNumbered, IsKept};
+ghost use Rattle.store_state.specs.Lists.{placed_up_to};
+ghost use Rattle.store_state.specs.EveryList.{IsLists};
+ghost use Rattle.kept_state.specs.Keeping.{IsKept};
+ghost use Rattle.kept_state.specs.Numbered.{IsNumbered};
 ghost use Rattle.store_opening.specs.Openings.{IsRefusal, HasFaulted};
 ghost use Rattle.store_opening.specs.Read.{HasRead, AreLawfulSlots, log_fault};
 

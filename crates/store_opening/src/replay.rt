@@ -1,7 +1,9 @@
 // The lists of a store, made again of the records of its log.
 ghost use Rattle.std.specs.Prelude.{◌≡◌, ◌+◌, ◌≤◌, ◌∷◌, [], None, IfOk, OnOk};
-ghost use Rattle.wal_log.specs.Later.{later, up_to};
-ghost use Rattle.store_state.specs.Lists.{IsLists, placed_up_to};
+ghost use Rattle.wal_log.specs.Later.{later};
+ghost use Rattle.wal_log.specs.UpTo.{up_to};
+ghost use Rattle.store_state.specs.Lists.{placed_up_to};
+ghost use Rattle.store_state.specs.EveryList.{IsLists};
 ghost use Rattle.store_state.specs.Opened.{opened};
 ghost use Rattle.store_opening.specs.Read.{AreLawfulSlots};
 ghost use Rattle.store_opening.specs.Restored.{with_records, set_aside, last_before, restored};

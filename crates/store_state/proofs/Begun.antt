@@ -4,7 +4,8 @@ use Rattle.std.proofs.lemmas.Bool.{or_parts, and_parts, eqb-false, leb-true, ltb
 use Rattle.std.proofs.lemmas.List.Elements.{All-nil, All-cons}
 use Rattle.btree_image.specs.Image.{shape_of}
 use Rattle.space_map.specs.declared.space.Extent.{Extent}
-use Rattle.space_map.specs.Space.{Space, IsSpace, IsFirstFit, is_in, is_reserved, reserved_with}
+use Rattle.space_map.specs.Space.{Space, IsFirstFit, is_in, is_reserved, reserved_with}
+use Rattle.space_map.specs.Calls.{IsSpace}
 use Rattle.comp_dir.specs.Directory.{Numbered}
 use Rattle.comp_dir.specs.Parts.{HasPages}
 use Rattle.comp_dir.specs.declared.places.TheConstants.{MOST_LIVE, PRIMARY}
@@ -13,7 +14,8 @@ use Rattle.primary_ix.specs.declared.rows.PrimRow.{PrimRow}
 use Rattle.store_state.specs.declared.planning.TheConstants.{MOST_ROWS}
 use Rattle.store_state.specs.Beginning.{ImageNeeds, IsLowestClosed, is_taken, fresh}
 use Rattle.store_state.specs.Laws.Planned.{few_rows}
-use Rattle.store_state.specs.Lists.{Lists, IsLists, open_of, extents_of, job_extents, frozen_rows}
+use Rattle.store_state.specs.Lists.{Lists, open_of, extents_of, frozen_rows}
+use Rattle.store_state.specs.EveryList.{IsLists, job_extents}
 use Rattle.store_state.proofs.Apart.{is_reserved-with_extent}
 
 -- a number that is not taken is none of theirs

@@ -3,8 +3,9 @@ use Rattle.std.proofs.Common.{◌≡◌, ℕ, ◌+◌, ◌<◌, ◌≤◌, List,
 use Rattle.std.proofs.lemmas.List.Elements.{All-cons}
 use Rattle.btree_image.specs.Rows.{IsStored}
 use Rattle.order_merge.specs.Adding.{with_entry}
-use Rattle.order_merge.specs.Entries.{Ascends}
-use Rattle.space_map.specs.Space.{Space, IsSpace, is_reserved}
+use Rattle.order_merge.specs.Ascending.{Ascends}
+use Rattle.space_map.specs.Space.{Space, is_reserved}
+use Rattle.space_map.specs.Calls.{IsSpace}
 use Rattle.space_map.specs.declared.space.TheConstants.{LEAST_PAGES, MOST_PAGES}
 use Rattle.order_merge.specs.laws.Adding.{Ascends-with_entry, All-with_entry}
 use Rattle.comp_dir.specs.Directory.{Numbered}
@@ -16,7 +17,8 @@ use Rattle.primary_ix.specs.declared.rows.PrimRow.{PrimRow}
 use Rattle.build_job.specs.Jobs.{described}
 use Rattle.store_state.specs.declared.jobs.JobRow.{JobRow}
 use Rattle.store_state.specs.Laws.Planned.{job-IsPlanned, planned-IsSound}
-use Rattle.store_state.specs.Lists.{Lists, IsLists, IsPlanned, IsPlannedIf, IsOpenSlot, job_of, job_extents, extents_of, open_of, frozen_rows, placed_up_to}
+use Rattle.store_state.specs.Lists.{Lists, job_of, extents_of, open_of, frozen_rows, placed_up_to}
+use Rattle.store_state.specs.EveryList.{IsLists, IsPlanned, IsPlannedIf, IsOpenSlot, job_extents}
 use Rattle.store_state.specs.Opened.{opened}
 use Rattle.store_state.specs.Steps.{installed}
 

@@ -9,7 +9,8 @@ use Rattle.geo_base.specs.declared.points.IndexKind.TheVariants.{Rtree, Dhb, Dhv
 use Rattle.tree_shape.specs.declared.levels.Shape.{Shape}
 use Rattle.tree_shape.specs.Shape.{level_start, IsPlace}
 use Rattle.tree_shape.specs.Laws.Places.{before_root}
-use Rattle.btree_image.specs.Image.{shape_of, AreLent}
+use Rattle.btree_image.specs.Image.{shape_of}
+use Rattle.btree_image.specs.Lent.{AreLent}
 use Rattle.space_map.specs.declared.space.Extent.{Extent}
 use Rattle.space_map.specs.Space.{end_of, is_in, is_reserved}
 use Rattle.comp_dir.specs.Directory.{Numbered}
@@ -17,9 +18,10 @@ use Rattle.comp_dir.specs.Parts.{HasPages, tree, main_tree}
 use Rattle.comp_dir.specs.Rules.{IsDeclared, IsSound}
 use Rattle.comp_dir.specs.declared.places.TheConstants.{MAIN_LEAVES, MAIN_INNERS, PRIMARY}
 use Rattle.comp_dir.specs.declared.slots.Slot.{Slot}
-use Rattle.primary_ix.specs.Components.{AreAllLent}
+use Rattle.primary_ix.specs.Pages.{AreAllLent}
 use Rattle.primary_ix.specs.Rows.{prim_layout}
-use Rattle.store_state.specs.Lists.{extent_of, extents_of, tree_of, trees_of, IsOpenSlot}
+use Rattle.store_state.specs.Lists.{extent_of, extents_of, tree_of, trees_of}
+use Rattle.store_state.specs.EveryList.{IsOpenSlot}
 
 -- what holds of joined lists holds of each
 pub All-front : {X : Type 0} (P : X → Type 0) (xs ys : List X) → All P (xs ++ ys) → All P xs

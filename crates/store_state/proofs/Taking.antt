@@ -5,7 +5,8 @@ use Rattle.std.proofs.lemmas.Bool.{and_from, le-leb, lt-ltb}
 use Rattle.comp_dir.specs.Directory.{Numbered}
 use Rattle.space_map.specs.declared.space.Extent.{Extent}
 use Rattle.space_map.specs.Space.{Space, is_in, is_reserved, reserved_with, IsFreeRun}
-use Rattle.store_state.specs.Lists.{extent_of, extents_of, IsOpenSlot}
+use Rattle.store_state.specs.Lists.{extent_of, extents_of}
+use Rattle.store_state.specs.EveryList.{IsOpenSlot}
 use Rattle.store_state.proofs.Apart.{Apart, both_false, page-of, page-before, reserved-more, is_reserved-with_extent}
 
 -- what stands behind the end of a list

@@ -1,5 +1,5 @@
 -- When a job may begin, and what it is then.
-use Rattle.std.specs.Prelude.{◌≡◌, ◌≢◌, ◌⊎◌, ℕ, ◌<◌, ◌≤◌, Bool, true, false, ◌==◌, min, List, ◌++◌, length, Option, Some, None, Result, Ok, Err}
+use Rattle.std.specs.Prelude.{◌≡◌, ◌≢◌, ◌⊎◌, ℕ, ◌<◌, ◌≤◌, Bool, true, false, ◌==◌, min, List, ◌++◌, length, None}
 use Rattle.std.specs.List.{list_any}
 use Rattle.btree_image.specs.Image.{shape_of}
 use Rattle.space_map.specs.Space.{Space, IsFreeRun, IsFirstFit, IsLongest}
@@ -8,14 +8,12 @@ use Rattle.comp_dir.specs.Parts.{HasPages}
 use Rattle.comp_dir.specs.declared.places.TheConstants.{MOST_LIVE, PRIMARY, SLOTS}
 use Rattle.primary_ix.specs.Rows.{prim_layout}
 use Rattle.primary_ix.specs.declared.rows.PrimRow.{PrimRow}
-use Rattle.build_job.specs.Jobs.{Job, IsJob}
 use Rattle.build_job.specs.declared.plan.JobPlan.{JobPlan}
 use Rattle.store_state.specs.declared.faults.BeginFault.{BeginFault}
 use Rattle.store_state.specs.declared.faults.BeginFault.TheVariants.{Held, Full, OutOfMemory}
 use Rattle.store_state.specs.declared.jobs.JobRow.{JobRow}
 use Rattle.store_state.specs.declared.planning.TheConstants.{MOST_ROWS}
-use Rattle.store_state.specs.Lists.{Lists, IsJobOf, frozen_rows, job_of, open_of}
-use Rattle.store_state.specs.Steps.{begun}
+use Rattle.store_state.specs.Lists.{Lists, frozen_rows, open_of}
 
 -- The image of a list needs so many pages. A component has a limit of rows; a longer list is taken for one of that many, for which
 -- no device has the pages.
@@ -90,17 +88,3 @@ pub record MayBegin (l : Lists) (plan : JobPlan) : Type 0 where
 -- a job of which no page is written
 abbrev pub fresh : (owner : ℕ) → JobPlan → JobRow
 fresh owner plan = record { owner = owner; plan = plan; written = 0 }
-
--- a job was begun for this owner
-pub record HasBegun (owner : ℕ) (l new : Lists) (job : Job) : Type 0 where
-  pub may : MayBegin l job.plan
-  pub lists : new ≡ begun (fresh owner job.plan) l
-  pub job_is : job ≡ job_of l (fresh owner job.plan)
-  pub owned : IsJobOf new owner job
-  pub sound : IsJob job
-
--- What the begin of a job comes to: nothing where nothing is frozen, a job, or a refusal, which leaves the lists.
-abbrev pub Begins : (owner : ℕ) (l new : Lists) → Result (Option Job) BeginFault → Type 0
-Begins owner l new (Ok None) = (l.frozen ≡ None) × (new ≡ l)
-Begins owner l new (Ok (Some job)) = HasBegun owner l new job
-Begins owner l new (Err fault) = (l.frozen ≢ None) × IsRefused l fault × (new ≡ l)

@@ -1,6 +1,9 @@
 pub mod Beginning
+pub mod Begun
+pub mod EveryList
 pub mod Laws
 pub mod Lists
 pub mod Opened
+pub mod OwnJob
 pub mod Room
 pub mod Steps

@@ -3,8 +3,10 @@
 ghost use Rattle.std.specs.Prelude.{◌≡◌, ◌≢◌, ℕ, ◌<◌, Some, All, false};
 ghost use Rattle.comp_dir.specs.Choosing.{shares_page};
 ghost use Rattle.comp_dir.specs.Rules.{IsSound};
-ghost use Rattle.build_job.specs.Jobs.{IsJob, IsPlaceable, described};
-ghost use Rattle.store_state.specs.Lists.{Lists, IsLists, job_of, open_of};
+ghost use Rattle.build_job.specs.Jobs.{described};
+ghost use Rattle.build_job.specs.Steps.{IsJob, IsPlaceable};
+ghost use Rattle.store_state.specs.Lists.{Lists, job_of, open_of};
+ghost use Rattle.store_state.specs.EveryList.{IsLists};
 
 use crate::jobs::JobRow;
 use comp_dir::{LSN_LIMIT, SLOTS};

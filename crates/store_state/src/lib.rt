@@ -9,8 +9,6 @@ mod laws;
 mod planning;
 mod space;
 mod state;
-#[cfg(test)]
-mod tests;
 
 pub use faults::BeginFault;
 pub use jobs::JobRow;

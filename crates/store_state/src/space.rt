@@ -2,8 +2,10 @@
 
 ghost use Rattle.std.specs.Prelude.{◌≡◌, ℕ, ◌≤◌, ◌||◌, ◌++◌, true, false, All, AllPairs, IfOk, OnOk};
 ghost use Rattle.comp_dir.specs.Choosing.{shares_page};
-ghost use Rattle.space_map.specs.Space.{IsSpace, is_reserved};
-ghost use Rattle.store_state.specs.Lists.{extents_of, IsOpenSlot};
+ghost use Rattle.space_map.specs.Space.{is_reserved};
+ghost use Rattle.space_map.specs.Calls.{IsSpace};
+ghost use Rattle.store_state.specs.Lists.{extents_of};
+ghost use Rattle.store_state.specs.EveryList.{IsOpenSlot};
 
 use crate::components::extent_of;
 use comp_dir::Slot;

@@ -2,12 +2,14 @@
 
 ghost use Rattle.std.specs.Prelude.{◌≡◌, ◌+◌, ◌<◌, ◌≤◌, ◌++◌, length, vec_len, false, Some, None, All, AllPairs, IsOk, IfOk, OnOk, is_some};
 ghost use Rattle.comp_dir.specs.Choosing.{shares_page};
-ghost use Rattle.primary_ix.specs.Components.{AreAllLent};
+ghost use Rattle.primary_ix.specs.Pages.{AreAllLent};
 ghost use Rattle.primary_ix.specs.Lookups.{in_memory};
 ghost use Rattle.space_map.specs.Space.{end_of, is_reserved};
-ghost use Rattle.store_state.specs.Lists.{IsLists, IsOpenSlot, HasPageLeft, IsAllWritten, trees_of, extents_of, frozen_rows, placed_up_to, placed_rows};
-ghost use Rattle.store_state.specs.Beginning.{Begins};
-ghost use Rattle.store_state.specs.Opened.{opened};
+ghost use Rattle.store_state.specs.Lists.{trees_of, extents_of, frozen_rows, placed_up_to};
+ghost use Rattle.store_state.specs.EveryList.{IsLists, IsOpenSlot};
+ghost use Rattle.store_state.specs.OwnJob.{HasPageLeft, IsAllWritten};
+ghost use Rattle.store_state.specs.Opened.{placed_rows, opened};
+ghost use Rattle.store_state.specs.Begun.{Begins};
 ghost use Rattle.store_state.specs.Steps.{rows_with, added, frozen_at, one_written, installed};
 
 use crate::components::Components;
@@ -42,7 +44,8 @@ pub struct State {
 
 impl Model for State {
     ghost use Rattle.std.specs.Prelude.{ℕ};
-    ghost use Rattle.store_state.specs.Lists.{Lists, IsLists};
+    ghost use Rattle.store_state.specs.Lists.{Lists};
+    ghost use Rattle.store_state.specs.EveryList.{IsLists};
 
     ghost Value = { Lists × ℕ };
 

@@ -1,8 +1,11 @@
 -- A page that no component has.
 use Rattle.std.proofs.Common.{◌≡◌, ◌⊎◌, inl, inr, ⊎_elim, ℕ, ◌+◌, ◌*◌, ◌≤◌, List, [], ◌∷◌, length, Option, Some, Result, Ok, Err, OnOk, sym, ◌∙◌, ap, subst, arith}
 use Rattle.std.proofs.lemmas.Option.{same_Some}
-use Rattle.dev_model.specs.Story.{Bytes, Story, Write, with_call, after, noted, part, bytes_of, IsOutside, IsReadable, Tells, WhereTold}
-use Rattle.dev_model.specs.Moments.{LeavesOnly, WritesWithin}
+use Rattle.dev_model.specs.Story.{Bytes, Story, Write, with_call, after, part, bytes_of, IsOutside, IsReadable, WhereTold}
+use Rattle.dev_model.specs.Doing.{noted}
+use Rattle.dev_model.specs.Answers.{Tells}
+use Rattle.dev_model.specs.Moments.{LeavesOnly}
+use Rattle.dev_model.specs.Writes.{WritesWithin}
 use Rattle.dev_model.specs.Laws.Frame.{WritesWithin-did}
 use Rattle.dev_model.specs.Laws.Plans.{Did-call}
 use Rattle.dev_model.specs.Laws.Ranges.{part-patched}
@@ -12,7 +15,8 @@ use Rattle.wal_log.specs.declared.log.Log.{Log}
 use Rattle.image_model.specs.declared.places.TheConstants.{LOG_START}
 use Rattle.wal_log.specs.Segments.{segments_of}
 use Rattle.comp_dir.specs.Directory.{directory_of}
-use Rattle.component_image.specs.Recovered.{IsBeside, Recovers}
+use Rattle.component_image.specs.Recovered.{Recovers}
+use Rattle.component_image.specs.Beside.{IsBeside}
 use Rattle.component_image.specs.Resting.{Rests}
 use Rattle.component_image.specs.Laws.Apart.{segments-apart, directory-apart}
 use Rattle.component_image.specs.Laws.Keeping.{elsewhere-images, elsewhere-rests}

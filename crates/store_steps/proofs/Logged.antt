@@ -4,7 +4,8 @@ use Rattle.std.proofs.lemmas.Nat.{mod_below}
 use Rattle.std.proofs.lemmas.Option.{same_Some}
 use Rattle.std.proofs.lemmas.List.Elements.{All-nil, All-cons}
 use Rattle.dev_model.specs.Story.{Story, after, clock_of, bytes_of, WhereTold}
-use Rattle.dev_model.specs.Moments.{LeavesOnly, WritesWithin}
+use Rattle.dev_model.specs.Moments.{LeavesOnly}
+use Rattle.dev_model.specs.Writes.{WritesWithin}
 use Rattle.dev_model.specs.Laws.CallLists.{clock_of-after}
 use Rattle.dev_model.specs.Laws.Frame.{WritesWithin-wider}
 use Rattle.dev_model.specs.Laws.Images.{IsImage-bytes}
@@ -15,7 +16,8 @@ use Rattle.wal_log.specs.Laws.Later.{later-push}
 use Rattle.wal_log.specs.Places.{segment_start, record_start}
 use Rattle.wal_log.specs.Segments.{segments_of}
 use Rattle.wal_log.specs.Rules.{Opens as LogOpens, records_of}
-use Rattle.wal_log.specs.State.{IsAtRest as LogAtRest, IsLogOf, HasRecordsOr, HasSameRecords, OpensAs, newest, following}
+use Rattle.wal_log.specs.State.{IsAtRest as LogAtRest, IsLogOf, newest, following}
+use Rattle.wal_log.specs.Changes.{HasRecordsOr, HasSameRecords, OpensAs}
 use Rattle.wal_log.specs.declared.places.TheConstants.{LOG_BYTES}
 use Rattle.wal_log.specs.declared.log.Log.{Log}
 use Rattle.wal_log.specs.declared.records.Record.{Record}
@@ -25,7 +27,8 @@ use Rattle.comp_dir.specs.Directory.{Directory, directory_of}
 use Rattle.comp_dir.specs.declared.places.TheConstants.{PRIMARY}
 use Rattle.component_image.specs.Components.{components, end_of}
 use Rattle.component_image.specs.Recovered.{primary_of, ends_of, Recovers}
-use Rattle.component_image.specs.Resting.{Rests, RecoversEither}
+use Rattle.component_image.specs.Resting.{Rests}
+use Rattle.component_image.specs.Standing.{RecoversEither}
 use Rattle.component_image.specs.Told.{SaysOld}
 use Rattle.component_image.specs.Laws.Apart.{directory-apart}
 use Rattle.component_image.specs.Laws.Keeping.{append-images, append-rests, turn-images, turn-rests}

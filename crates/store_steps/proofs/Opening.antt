@@ -1,8 +1,11 @@
 -- The three steps of an install: the slot's bytes, the sync, and the gate.
 use Rattle.std.proofs.Common.{◌≡◌, inl, inr, ℕ, ◌+◌, ◌<◌, ◌≤◌, List, [], ◌∷◌, Option, Some, Result, refl, sym, ◌∙◌, ap, subst, arith}
 use Rattle.std.proofs.lemmas.Option.{same_Some}
-use Rattle.dev_model.specs.Story.{noted, Call, Read, Write, Sync, FailedWrite, FailedCall, Calls, Story, with_call, after, clock_of, bytes_of, IsOutside, IsReadable, IsSpared, IsCalmAt, Tells, WhereTold}
-use Rattle.dev_model.specs.Moments.{LeavesOnly, WritesWithin, AreSpared}
+use Rattle.dev_model.specs.Story.{Call, Read, Write, Sync, FailedWrite, FailedCall, Calls, Story, with_call, after, clock_of, bytes_of, IsOutside, IsReadable, IsSpared, IsCalmAt, WhereTold}
+use Rattle.dev_model.specs.Doing.{noted}
+use Rattle.dev_model.specs.Answers.{Tells}
+use Rattle.dev_model.specs.Moments.{LeavesOnly}
+use Rattle.dev_model.specs.Writes.{WritesWithin, AreSpared}
 use Rattle.dev_model.specs.Laws.CallLists.{clock_of-after}
 use Rattle.dev_model.specs.Laws.Frame.{WritesWithin-did, WritesWithin-then, WritesWithin-wider}
 use Rattle.dev_model.specs.Laws.Plans.{Did-call}
@@ -14,14 +17,17 @@ use Rattle.wal_log.specs.declared.records.Record.{Record}
 use Rattle.image_model.specs.declared.places.TheConstants.{LOG_START}
 use Rattle.comp_dir.specs.Places.{slot_start}
 use Rattle.comp_dir.specs.Directory.{directory_of}
-use Rattle.comp_dir.specs.State.{IsAtRest as DirectoryAtRest, IsClosed, IsOneOf, IsReady, IsWritten as IsSlotWritten, HasStayed, with_slot}
+use Rattle.comp_dir.specs.State.{IsClosed, IsOneOf, IsReady, IsWritten as IsSlotWritten, HasStayed, with_slot}
+use Rattle.comp_dir.specs.Resting.{IsAtRest as DirectoryAtRest}
 use Rattle.comp_dir.specs.Laws.Staying.{directory-stays, looked-beside, ready-synced}
 use Rattle.comp_dir.specs.declared.places.TheConstants.{PRIMARY}
 use Rattle.comp_dir.specs.declared.slots.Slot.{Slot}
 use Rattle.primary_ix.specs.declared.rows.PrimRow.{PrimRow}
 use Rattle.component_image.specs.Components.{components, IsInExtent}
-use Rattle.component_image.specs.Recovered.{primary_of, IsBeside, Recovers}
-use Rattle.component_image.specs.Resting.{Rests, MayStand}
+use Rattle.component_image.specs.Recovered.{primary_of, Recovers}
+use Rattle.component_image.specs.Beside.{IsBeside}
+use Rattle.component_image.specs.Resting.{Rests}
+use Rattle.component_image.specs.Standing.{MayStand}
 use Rattle.component_image.specs.Laws.Apart.{segments-apart}
 use Rattle.component_image.specs.Laws.Keeping.{elsewhere-images, elsewhere-rests}
 use Rattle.component_image.specs.Laws.Resting.{content-behind, beside-agrees}

@@ -1,18 +1,22 @@
 // A component that is written, from its slot to its open gate.
 ghost use Rattle.std.specs.Prelude.{◌≡◌, ◌<◌, ◌≤◌, ◌∷◌, List, OnOk};
 ghost use Rattle.dev_model.specs.Counts.{HasCause};
-ghost use Rattle.dev_model.specs.Story.{WhereTold, Did, Ticks, bytes_of};
-ghost use Rattle.dev_model.specs.Moments.{LeavesOnly, WritesWithin};
+ghost use Rattle.dev_model.specs.Story.{WhereTold, bytes_of};
+ghost use Rattle.dev_model.specs.Doing.{Did, Ticks};
+ghost use Rattle.dev_model.specs.Moments.{LeavesOnly};
+ghost use Rattle.dev_model.specs.Writes.{WritesWithin};
 ghost use Rattle.table_model.specs.Table.{Table};
 ghost use Rattle.wal_log.specs.Segments.{segments_of};
 ghost use Rattle.wal_log.specs.declared.log.Log.{Log};
 ghost use Rattle.wal_log.specs.declared.records.Record.{Record};
 ghost use Rattle.comp_dir.specs.Places.{slot_start};
 ghost use Rattle.comp_dir.specs.Directory.{directory_of};
-ghost use Rattle.comp_dir.specs.State.{IsAtRest as DirectoryAtRest, IsClosed, install_calls, with_slot};
+ghost use Rattle.comp_dir.specs.State.{IsClosed, with_slot};
+ghost use Rattle.comp_dir.specs.Resting.{IsAtRest as DirectoryAtRest, install_calls};
 ghost use Rattle.primary_ix.specs.declared.rows.PrimRow.{PrimRow};
 ghost use Rattle.component_image.specs.Recovered.{primary_of, Recovers};
-ghost use Rattle.component_image.specs.Resting.{Rests, MayStand};
+ghost use Rattle.component_image.specs.Resting.{Rests};
+ghost use Rattle.component_image.specs.Standing.{MayStand};
 ghost use Rattle.store_steps.specs.Steps.{IsWritten};
 
 use comp_dir::{SLOT_BYTES, SLOTS, Slot, open_gate, write_slot};

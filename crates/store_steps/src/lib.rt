@@ -8,6 +8,3 @@ mod pages;
 pub use installing::install_component;
 pub use logging::{append_record, change_segments};
 pub use pages::write_page;
-
-#[cfg(test)]
-mod tests;

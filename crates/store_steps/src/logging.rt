@@ -1,20 +1,25 @@
 // Records that are appended, and changes of the log's segments.
 ghost use Rattle.std.specs.Prelude.{◌≡◌, ◌+◌, ◌<◌, ◌≤◌, ◌++◌, ◌∷◌, [], IfOk, OnErr, OnOk, ℕ, length, get_or, set, false, true};
 ghost use Rattle.dev_model.specs.Counts.{HasCause};
-ghost use Rattle.dev_model.specs.Story.{WhereTold, Did, Ticks, bytes_of};
-ghost use Rattle.dev_model.specs.Moments.{LeavesOnly, WritesWithin};
+ghost use Rattle.dev_model.specs.Story.{WhereTold, bytes_of};
+ghost use Rattle.dev_model.specs.Doing.{Did, Ticks};
+ghost use Rattle.dev_model.specs.Moments.{LeavesOnly};
+ghost use Rattle.dev_model.specs.Writes.{WritesWithin};
 ghost use Rattle.table_model.specs.Table.{Table};
 ghost use Rattle.table_model.specs.Answers.{after_write};
 ghost use Rattle.wal_log.specs.Later.{later};
 ghost use Rattle.wal_log.specs.Records.{HasOld, record_bytes};
 ghost use Rattle.wal_log.specs.Rules.{records_of};
 ghost use Rattle.wal_log.specs.Segments.{segments_of};
-ghost use Rattle.wal_log.specs.State.{IsCounted, append_calls, turn_calls, following, close_count};
+ghost use Rattle.wal_log.specs.State.{turn_calls, following};
+ghost use Rattle.wal_log.specs.Counted.{IsCounted};
+ghost use Rattle.wal_log.specs.Changes.{append_calls, close_count};
 ghost use Rattle.image_model.specs.Recovered.{write_of};
 ghost use Rattle.comp_dir.specs.Directory.{directory_of};
 ghost use Rattle.component_image.specs.Components.{end_of};
 ghost use Rattle.component_image.specs.Recovered.{primary_of, Recovers};
-ghost use Rattle.component_image.specs.Resting.{Rests, RecoversEither};
+ghost use Rattle.component_image.specs.Resting.{Rests};
+ghost use Rattle.component_image.specs.Standing.{RecoversEither};
 ghost use Rattle.component_image.specs.Told.{SaysOld};
 
 use dev_model::{Device, Failed};

@@ -1,8 +1,10 @@
 // A page that no component has.
 ghost use Rattle.std.specs.Prelude.{◌≡◌, ◌+◌, ◌*◌, ◌<◌, ◌≤◌, [], ◌∷◌, OnOk};
 ghost use Rattle.dev_model.specs.Counts.{HasCause};
-ghost use Rattle.dev_model.specs.Story.{WhereTold, Did, Ticks, Write, bytes_of};
-ghost use Rattle.dev_model.specs.Moments.{LeavesOnly, WritesWithin};
+ghost use Rattle.dev_model.specs.Story.{WhereTold, Write, bytes_of};
+ghost use Rattle.dev_model.specs.Doing.{Did, Ticks};
+ghost use Rattle.dev_model.specs.Moments.{LeavesOnly};
+ghost use Rattle.dev_model.specs.Writes.{WritesWithin};
 ghost use Rattle.table_model.specs.Table.{Table};
 ghost use Rattle.wal_log.specs.Segments.{segments_of};
 ghost use Rattle.wal_log.specs.declared.log.Log.{Log};

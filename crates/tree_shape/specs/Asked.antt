@@ -1,11 +1,8 @@
 -- What a reader of pages asked for.
-use Rattle.std.specs.Prelude.{◌≡◌, ℕ, Bool, true, false, List, [], ◌∷◌, ◌++◌, map, Result, Ok, Err, All, IsTrue}
+use Rattle.std.specs.Prelude.{◌≡◌, ℕ, Bool, true, false, List, [], ◌∷◌, ◌++◌, Result, Ok, Err, All, IsTrue}
 use Rattle.page_codec.specs.declared.faults.PageFault.{PageFault}
 use Rattle.page_codec.specs.declared.faults.PageFault.TheVariants.{Failed, Damaged, OutOfMemory}
-
--- these pages, each given
-abbrev pub given : List ℕ → List (ℕ × Bool)
-given pages = map (λ page. (page, true)) pages
+use Rattle.tree_shape.specs.Given.{given}
 
 -- these pages, each given but the last
 abbrev pub given_but_last : List ℕ → List (ℕ × Bool)

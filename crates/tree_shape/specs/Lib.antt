@@ -1,3 +1,4 @@
-pub mod Shape
 pub mod Asked
+pub mod Given
 pub mod Laws
+pub mod Shape

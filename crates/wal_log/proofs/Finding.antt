@@ -3,14 +3,14 @@ use Rattle.std.proofs.Common.{◌≡◌, ◌≢◌, inl, inr, ⊎_elim, ℕ, suc
 use Rattle.std.proofs.lemmas.List.{append-nil, get_or_append_left, get_or_at, length_push, map-append, length-drop, length-take-le}
 use Rattle.std.proofs.Math.Seq.{get_or-take, get_or-drop}
 use Rattle.std.proofs.lemmas.Option.{same_Some}
-use Rattle.dev_model.specs.Story.{Bytes, Story, after, bytes_of, part, IsSettled, IsReadFrom, WhereTold}
-use Rattle.wal_log.specs.Places.{ReadsLog}
+use Rattle.dev_model.specs.Story.{Bytes, Story, after, bytes_of, part, IsSettled, WhereTold}
+use Rattle.dev_model.specs.Answers.{IsReadFrom}
+use Rattle.wal_log.specs.Reads.{ReadsLog}
 use Rattle.dev_model.specs.Laws.Ranges.{part-list}
 use Rattle.dev_model.specs.Laws.Images.{IsReadable-settled}
 use Rattle.dev_model.specs.Laws.Reads.{IsSettled-reads, bytes_of-reads}
 use Rattle.wal_log.specs.State.{IsSegmentStill, IsStill}
-use Rattle.wal_log.specs.Places.{IsInLog}
-use Rattle.wal_log.specs.Places.{segment_start, record_start}
+use Rattle.wal_log.specs.Places.{IsInLog, segment_start, record_start}
 use Rattle.wal_log.specs.Records.{record_of, IsRecord}
 use Rattle.wal_log.specs.Segments.{segment_records, open_records, IsLooked}
 use Rattle.wal_log.specs.Rules.{AreRecords, HasRecords}

@@ -2,8 +2,10 @@
 use Rattle.std.proofs.Common.{zero, suc, ◌*◌, map, ◌≡◌, ◌≢◌, ◌⊎◌, inl, inr, ⊎_elim, ℕ, ◌+◌, ◌-◌, ◌<◌, ◌≤◌, List, [], ◌∷◌, ◌++◌, Option, Some, None, Result, length, get_or, set, sym, ◌∙◌, ap, subst, arith, length-append, Bool, false, ◌==◌, ◌%◌}
 use Rattle.std.proofs.lemmas.Bool.{cases_eq}
 use Rattle.std.proofs.lemmas.List.{length-map}
-use Rattle.dev_model.specs.Story.{Bytes, Write, Sync, Calls, Story, Did, after, bytes_of, patched, IsInside, IsOutside, IsSettled, IsReadable, IsImageDuring}
-use Rattle.dev_model.specs.Moments.{LeavesOnly, WritesWithin, AreSpared}
+use Rattle.dev_model.specs.Story.{Bytes, Write, Sync, Calls, Story, after, bytes_of, patched, IsInside, IsOutside, IsSettled, IsReadable, IsImageDuring}
+use Rattle.dev_model.specs.Doing.{Did}
+use Rattle.dev_model.specs.Moments.{LeavesOnly}
+use Rattle.dev_model.specs.Writes.{WritesWithin, AreSpared}
 use Rattle.dev_model.specs.Laws.Frame.{WritesWithin-did}
 use Rattle.dev_model.specs.Laws.Ranges.{patched-outside, patched-inside}
 use Rattle.dev_model.specs.Laws.Images.{IsReadable-settled}
@@ -12,8 +14,10 @@ use Rattle.wal_log.proofs.Planned.{Leaves, leaves-one, leaves-more}
 use Rattle.wal_log.specs.Records.{record_bytes}
 use Rattle.wal_log.specs.declared.records.Record.{Record}
 use Rattle.wal_log.specs.Places.{segment_start, record_start}
-use Rattle.wal_log.specs.Segments.{Segments, segment_records, segment_at, segments_of, with_records, gated, behind_gate, AreWide, IsLooked}
-use Rattle.wal_log.specs.State.{IsStill, IsBeforeOrAfterAll, IsAtRest, newest, append_all_calls}
+use Rattle.wal_log.specs.Segments.{Segments, segment_records, segment_at, segments_of, IsLooked}
+use Rattle.wal_log.specs.Growing.{with_records, gated, behind_gate, AreWide}
+use Rattle.wal_log.specs.State.{IsStill, IsAtRest, newest}
+use Rattle.wal_log.specs.Changes.{IsBeforeOrAfterAll, append_all_calls}
 use Rattle.wal_log.specs.declared.log.Log.{Log}
 use Rattle.wal_log.specs.Laws.Agreeing.{segment_records-end, segment_at-kept, segment_at-grown, segments-elsewhere, segments_of-at_one, segments_of-at, segments_of-set, looked-elsewhere, looked-back, segment_records-grown, Holds, length-gated, gated-behind}
 

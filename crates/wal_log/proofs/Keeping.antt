@@ -3,9 +3,11 @@ use Rattle.std.proofs.Common.{length-append, ◌-◌, ◌≡◌, ◌≢◌, ◌�
 use Rattle.std.proofs.lemmas.Bool.Decides.{nat_tests}
 use Rattle.std.proofs.lemmas.List.{append-nil, get_or_append_left, get_or-append_right, map-append}
 use Rattle.wal_log.specs.Records.{IsRecord, record_of}
-use Rattle.wal_log.specs.Segments.{Segments, with_records}
+use Rattle.wal_log.specs.Segments.{Segments}
+use Rattle.wal_log.specs.Growing.{with_records}
 use Rattle.wal_log.specs.Rules.{Numbered, generation_of, first_lsn_of, placed, ordered, in_order, AreRecords, HasStart, AreEnds, IsSound, AreSound, Opens, OpensFrom, records_in, records_of}
-use Rattle.wal_log.specs.State.{HasLast, IsLogOf, OpensAs, HasRecordsOrAll, IsBeforeOrAfterAll, newest}
+use Rattle.wal_log.specs.State.{HasLast, IsLogOf, newest}
+use Rattle.wal_log.specs.Changes.{OpensAs, HasRecordsOrAll, IsBeforeOrAfterAll}
 use Rattle.wal_log.specs.declared.log.Log.{Log}
 use Rattle.wal_log.specs.declared.records.Record.{Record}
 

@@ -6,7 +6,8 @@ use Rattle.wal_log.specs.Records.{IsRecord, record_of}
 use Rattle.wal_log.specs.Headers.{generation_in}
 use Rattle.wal_log.specs.Segments.{Segment, Segments}
 use Rattle.wal_log.specs.Rules.{Numbered, next_lsn_of, first_lsn_of, AreRecords, AreSound, in_order, records_in, records_of}
-use Rattle.wal_log.specs.State.{HasLast, IsLogOf, IsCounted, following}
+use Rattle.wal_log.specs.State.{HasLast, IsLogOf, following}
+use Rattle.wal_log.specs.Counted.{IsCounted}
 use Rattle.wal_log.specs.Later.{later}
 use Rattle.wal_log.specs.Laws.Later.{numbered-bodies, length-bodies, later-none}
 use Rattle.wal_log.specs.declared.log.Log.{Log}

@@ -1,13 +1,11 @@
 -- The value of a log that was read.
 use Rattle.std.proofs.Common.{◌≡◌, ℕ, ◌+◌, ◌<◌, ◌%◌, false, List, [], ◌∷◌, length, get_or, Option, Some, None, sym, ◌∙◌, ap, subst, arith, ◌==◌}
 use Rattle.dev_model.specs.Story.{Bytes, Story, bytes_of}
-use Rattle.wal_log.specs.Places.{ReadsLog}
+use Rattle.wal_log.specs.Reads.{ReadsLog}
 use Rattle.wal_log.specs.Places.{segment_start}
-use Rattle.wal_log.specs.Segments.{segment_records}
-use Rattle.wal_log.specs.State.{IsAtRest, IsStill, newest}
+use Rattle.wal_log.specs.Segments.{segment_records, segments_of}
+use Rattle.wal_log.specs.State.{IsAtRest, IsStill, newest, HasLast, IsLogOf}
 use Rattle.wal_log.specs.Walk.{IsNewest}
-use Rattle.wal_log.specs.State.{HasLast, IsLogOf}
-use Rattle.wal_log.specs.Segments.{segments_of}
 use Rattle.wal_log.specs.Rules.{Numbered, AreSound, Opens, in_order}
 use Rattle.wal_log.proofs.Keeping.{sound-from}
 use Rattle.wal_log.specs.declared.log.Log.{Log}

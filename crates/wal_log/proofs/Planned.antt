@@ -1,7 +1,8 @@
 -- What planned calls leave: writes, each with its sync.
 use Rattle.std.proofs.Common.{◌≡◌, inr, ℕ, List, [], ◌∷◌, ◌++◌, Option, Some, None, Ok, Err, refl, sym, ◌∙◌, subst}
 use Rattle.std.proofs.lemmas.Option.{same_Some}
-use Rattle.dev_model.specs.Story.{Bytes, Write, Sync, Calls, Story, after, clock_of, all_noted, bytes_of, IsImageDuring, IsImageNow, HasStoppedIn}
+use Rattle.dev_model.specs.Story.{Bytes, Write, Sync, Calls, Story, after, clock_of, bytes_of, IsImageDuring, IsImageNow}
+use Rattle.dev_model.specs.Doing.{all_noted, HasStoppedIn}
 use Rattle.dev_model.specs.Laws.Ranges.{patched-outside}
 use Rattle.dev_model.specs.Laws.Images.{IsReadable-settled}
 use Rattle.dev_model.specs.Laws.Plans.{all_noted-told, no_story, Did-untold, Did-cut, Did-then}

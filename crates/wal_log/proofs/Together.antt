@@ -7,8 +7,10 @@ use Rattle.dev_model.specs.Moments.{EachMoment}
 use Rattle.dev_model.specs.Laws.Runs.{EachMoment-weaker}
 use Rattle.wal_log.specs.Records.{record_bytes, record_of, IsRecord}
 use Rattle.wal_log.specs.Rules.{AreRecords, Opens, records_of}
-use Rattle.wal_log.specs.Segments.{AreWide, segments_of}
-use Rattle.wal_log.specs.State.{IsAtRest, IsLogOf, IsBeforeOrAfterAll, HasRecordsOrAll, newest, append_all_calls}
+use Rattle.wal_log.specs.Segments.{segments_of}
+use Rattle.wal_log.specs.Growing.{AreWide}
+use Rattle.wal_log.specs.State.{IsAtRest, IsLogOf, newest}
+use Rattle.wal_log.specs.Changes.{IsBeforeOrAfterAll, HasRecordsOrAll, append_all_calls}
 use Rattle.wal_log.specs.declared.log.Log.{Log}
 use Rattle.wal_log.specs.declared.records.Record.{Record}
 use Rattle.wal_log.proofs.Planned.{Leaves, leaves-moments}

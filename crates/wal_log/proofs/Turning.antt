@@ -4,8 +4,10 @@ use Rattle.std.proofs.lemmas.Bool.{cases_eq}
 use Rattle.std.proofs.lemmas.List.{get_or_append_left, get_or_at, get_or-set_other}
 use Rattle.std.proofs.lemmas.Bool.Decides.{nat_tests}
 use Rattle.std.proofs.lemmas.Grind.{get_or-set_at}
-use Rattle.dev_model.specs.Story.{Bytes, Write, Sync, Calls, Story, Did, after, bytes_of, part, patched, IsInside, IsOutside, IsReadable, IsImageDuring}
-use Rattle.dev_model.specs.Moments.{LeavesOnly, WritesWithin, AreSpared}
+use Rattle.dev_model.specs.Story.{Bytes, Write, Sync, Calls, Story, after, bytes_of, part, patched, IsInside, IsOutside, IsReadable, IsImageDuring}
+use Rattle.dev_model.specs.Doing.{Did}
+use Rattle.dev_model.specs.Moments.{LeavesOnly}
+use Rattle.dev_model.specs.Writes.{WritesWithin, AreSpared}
 use Rattle.dev_model.specs.Laws.Frame.{WritesWithin-did}
 use Rattle.dev_model.specs.Laws.Ranges.{patched-outside, patched-inside, part-list}
 use Rattle.dev_model.specs.Laws.Images.{IsReadable-settled}
@@ -15,8 +17,10 @@ use Rattle.wal_log.proofs.Planned.{Leaves, leaves-one, leaves-more}
 use Rattle.wal_log.proofs.Spelled.{length-header_bytes}
 use Rattle.wal_log.specs.Places.{segment_start}
 use Rattle.wal_log.specs.Headers.{header_bytes}
-use Rattle.wal_log.specs.Segments.{Segments, segment_records, segment_at, segments_of, started_segment, IsLooked}
-use Rattle.wal_log.specs.State.{IsStill, IsOneOf, IsTurning, IsAtRest, newest, following, first_header, close_calls_if, start_calls, turn_calls}
+use Rattle.wal_log.specs.Segments.{Segments, segment_records, segment_at, segments_of, IsLooked}
+use Rattle.wal_log.specs.Growing.{started_segment}
+use Rattle.wal_log.specs.State.{IsStill, IsAtRest, newest, following, close_calls_if, start_calls, turn_calls}
+use Rattle.wal_log.specs.Changes.{IsOneOf, IsTurning, first_header}
 use Rattle.wal_log.specs.declared.log.Log.{Log}
 use Rattle.wal_log.specs.Laws.Agreeing.{segment_at-shut, segment_at-same, segments_of-at_one, segments_of-set, segments-elsewhere, segment_at-started, looked-elsewhere, looked-back}
 

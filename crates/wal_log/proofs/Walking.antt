@@ -4,14 +4,15 @@ use Rattle.std.specs.Option.{option_map}
 use Rattle.std.proofs.lemmas.List.{drop_more, take_more, get_or-map, length-map, length-drop, append-nil}
 use Rattle.std.proofs.Math.Seq.{take-length, drop-length}
 use Rattle.dev_model.specs.Story.{Bytes, Story, after, bytes_of, WhereTold}
-use Rattle.wal_log.specs.Places.{ReadsLog}
+use Rattle.wal_log.specs.Reads.{ReadsLog}
 use Rattle.wal_log.proofs.Finding.{IsOpenStill-after, bytes_of-after}
 use Rattle.wal_log.specs.State.{IsStill, HasLast}
-use Rattle.wal_log.specs.Found.{IsOpenStill}
+use Rattle.wal_log.specs.Found.{IsOpenStill, WhereBad}
 use Rattle.wal_log.specs.Records.{record_of}
 use Rattle.wal_log.specs.Headers.{first_lsn_in, generation_in}
 use Rattle.wal_log.specs.Segments.{Segment, segment_header, segment_records, segments_of}
-use Rattle.wal_log.specs.Rules.{Numbered, HasStart, IsSegment, IsEnd, AreEnds, IsSound, AreSound, IsFirstUnsound, Opens, OpensFrom, IsBad, IsBadFrom, in_order, records_in, records_of, Follows}
+use Rattle.wal_log.specs.Rules.{Numbered, HasStart, IsSegment, IsEnd, AreEnds, IsSound, AreSound, Opens, OpensFrom, in_order, records_in, records_of, Follows}
+use Rattle.wal_log.specs.Bad.{IsFirstUnsound, IsBad, IsBadFrom}
 use Rattle.std.proofs.lemmas.Bool.{cases_eq}
 use Rattle.wal_log.specs.Places.{segment_start}
 use Rattle.wal_log.specs.Heads.{numbered_at, open_heads, heads_above, header_of, with_head, placed_head}
@@ -20,7 +21,6 @@ use Rattle.wal_log.specs.Walk.{ended_of, GoesOn, StartsAfter, EndsThere, HasRead
 use Rattle.wal_log.specs.declared.heads.Head.{Head}
 use Rattle.wal_log.specs.declared.walk.Ended.{Ended}
 use Rattle.wal_log.specs.declared.records.Record.{Record}
-use Rattle.wal_log.specs.Found.{WhereBad}
 use Rattle.wal_log.specs.declared.reading.LogFault.{LogFault}
 use Rattle.wal_log.specs.declared.reading.LogFault.TheVariants.{Failed, BadLog, OutOfMemory}
 use Rattle.wal_log.proofs.Ordering.{in_order-heads}

@@ -2,7 +2,8 @@
 -- (`WhereBad`, `HasCauseOfFault`).
 use Rattle.std.specs.Prelude.{◌≡◌, ◌≢◌, ◌%◌, take, drop, get_or, ℕ, ◌+◌, ◌-◌, ◌<◌, ◌≤◌, ◌⊎◌, List, ◌++◌, length, map, Result, IfErr}
 use Rattle.dev_model.specs.Counts.{Rose}
-use Rattle.dev_model.specs.Story.{Bytes, Story, bytes_of, part, IsSettled, IsReadFrom}
+use Rattle.dev_model.specs.Story.{Bytes, Story, bytes_of, part, IsSettled}
+use Rattle.dev_model.specs.Answers.{IsReadFrom}
 use Rattle.wal_log.specs.Records.{IsRecord, record_of}
 use Rattle.wal_log.specs.Rules.{HasRecords, AreRecords}
 use Rattle.wal_log.specs.Places.{segment_start, record_start}

@@ -1,12 +1,8 @@
--- The records that come behind a number, and those up to one.
-use Rattle.std.specs.Prelude.{ℕ, List, nat_le, nat_lt}
+-- The records that come behind a number.
+use Rattle.std.specs.Prelude.{ℕ, List, nat_lt}
 use Rattle.std.specs.List.{filter}
 use Rattle.wal_log.specs.declared.records.Record.{Record}
 
 -- those of the records whose number is above this one, in their order
 abbrev pub later : ℕ → List Record → List Record
 later last records = filter (λ r. nat_lt last r.lsn) records
-
--- those whose number is at most this one
-abbrev pub up_to : ℕ → List Record → List Record
-up_to cut records = filter (λ r. nat_le r.lsn cut) records

@@ -1,11 +1,14 @@
 // Laws of the log, each as the contract of a function that does nothing.
 ghost use Rattle.std.specs.Prelude.{◌≡◌, ◌⊎◌, ◌+◌, ◌<◌, ◌≤◌, ℕ, List, length, map, Option, Some};
 ghost use Rattle.dev_model.specs.Story.{Story, Calls, bytes_of, after, clock_of};
-ghost use Rattle.dev_model.specs.Moments.{EachMoment, AreSpared, WritesWithin};
+ghost use Rattle.dev_model.specs.Moments.{EachMoment};
+ghost use Rattle.dev_model.specs.Writes.{AreSpared, WritesWithin};
 ghost use Rattle.wal_log.specs.Records.{record_bytes, record_of};
 ghost use Rattle.wal_log.specs.Rules.{AreRecords, Opens, records_of};
-ghost use Rattle.wal_log.specs.Segments.{Segment, segment_at, segments_of, IsRecorded, StartsWith};
-ghost use Rattle.wal_log.specs.State.{IsSegmentStill, IsAtRest, IsLogOf, HasRecordsOrAll, append_all_calls};
+ghost use Rattle.wal_log.specs.Segments.{Segment, segment_at, segments_of};
+ghost use Rattle.wal_log.specs.Growing.{IsRecorded, StartsWith};
+ghost use Rattle.wal_log.specs.State.{IsSegmentStill, IsAtRest, IsLogOf};
+ghost use Rattle.wal_log.specs.Changes.{HasRecordsOrAll, append_all_calls};
 ghost use Rattle.wal_log.specs.declared.log.Log.{Log};
 ghost use Rattle.wal_log.specs.declared.records.Record.{Record};
 

@@ -1,14 +1,20 @@
 // The log: its end, where it grows, and the turn to the next segment.
 ghost use Rattle.std.specs.Prelude.{◌≡◌, ◌+◌, ◌-◌, ◌++◌, ◌∷◌, [], ◌^◌, ◌<◌, ◌≤◌, None, Some, false, true, IfOk, OnErr, OnOk, set, get_or, length, ℕ, List, All};
 ghost use Rattle.dev_model.specs.Counts.{HasCause};
-ghost use Rattle.dev_model.specs.Story.{WhereTold, Did, Ticks, bytes_of};
-ghost use Rattle.dev_model.specs.Moments.{LeavesOnly, WritesWithin};
-ghost use Rattle.wal_log.specs.Places.{EndsOnDevice, segment_start, record_start};
+ghost use Rattle.dev_model.specs.Story.{WhereTold, bytes_of};
+ghost use Rattle.dev_model.specs.Doing.{Did, Ticks};
+ghost use Rattle.dev_model.specs.Moments.{LeavesOnly};
+ghost use Rattle.dev_model.specs.Writes.{WritesWithin};
+ghost use Rattle.wal_log.specs.Places.{segment_start, record_start};
+ghost use Rattle.wal_log.specs.Reads.{EndsOnDevice};
 ghost use Rattle.wal_log.specs.Records.{record_bytes, HasOld};
-ghost use Rattle.wal_log.specs.Segments.{segments_of, with_record, started_segment};
+ghost use Rattle.wal_log.specs.Segments.{segments_of};
+ghost use Rattle.wal_log.specs.Growing.{with_record, started_segment};
 ghost use Rattle.wal_log.specs.Rules.{Opens, records_of};
 ghost use Rattle.wal_log.specs.Later.{later};
-ghost use Rattle.wal_log.specs.State.{IsAtRest, IsCounted, IsLogOf, HasRecordsOr, HasSameRecords, OpensAs, IsBeforeOrAfter, IsTurning, newest, following, first_header, append_calls, close_calls, close_calls_if, close_count, start_calls, turn_calls};
+ghost use Rattle.wal_log.specs.State.{IsAtRest, IsLogOf, newest, following, close_calls, close_calls_if, start_calls, turn_calls};
+ghost use Rattle.wal_log.specs.Counted.{IsCounted};
+ghost use Rattle.wal_log.specs.Changes.{HasRecordsOr, HasSameRecords, OpensAs, IsBeforeOrAfter, IsTurning, first_header, append_calls, close_count};
 
 use crate::Record;
 use crate::places::{

@@ -2,11 +2,13 @@
 ghost use Rattle.std.specs.Prelude.{◌≡◌, ◌==◌, ◌+◌, ◌<◌, ◌≤◌, ◌^◌, length, All, IfOk, IfErr, ℕ, false, get_or};
 ghost use Rattle.dev_model.specs.Counts.{HasCause};
 ghost use Rattle.dev_model.specs.Story.{WhereTold, bytes_of};
-ghost use Rattle.wal_log.specs.Places.{EndsOnDevice, ReadsLog};
+ghost use Rattle.wal_log.specs.Reads.{EndsOnDevice, ReadsLog};
 ghost use Rattle.wal_log.specs.Segments.{segments_of};
-ghost use Rattle.wal_log.specs.Rules.{Opens, IsBad, records_of};
+ghost use Rattle.wal_log.specs.Rules.{Opens, records_of};
+ghost use Rattle.wal_log.specs.Bad.{IsBad};
 ghost use Rattle.wal_log.specs.Found.{WhereBad, HasCauseOfFault};
-ghost use Rattle.wal_log.specs.State.{IsAtRest, IsCounted, IsLogOf, IsSegmentStill, IsStill};
+ghost use Rattle.wal_log.specs.State.{IsAtRest, IsLogOf, IsSegmentStill, IsStill};
+ghost use Rattle.wal_log.specs.Counted.{IsCounted};
 
 use crate::places::LSN_LIMIT;
 use crate::walk::{Gathered, read_segments};

@@ -1,8 +1,10 @@
 // The log as it is found on a device.
 ghost use Rattle.std.specs.Prelude.{◌≡◌, ◌+◌, ◌*◌, ◌%◌, ◌<◌, ◌≤◌, ◌++◌, [], ◌∷◌, Some, IfOk, IfErr, OnOk, OnErr, ℕ, length, map, slice_index};
 ghost use Rattle.dev_model.specs.Counts.{HasCause, Rose};
-ghost use Rattle.dev_model.specs.Story.{WhereTold, IsReadFrom, bytes_of};
-ghost use Rattle.wal_log.specs.Places.{EndsOnDevice, ReadsLog, record_start};
+ghost use Rattle.dev_model.specs.Story.{WhereTold, bytes_of};
+ghost use Rattle.dev_model.specs.Answers.{IsReadFrom};
+ghost use Rattle.wal_log.specs.Places.{record_start};
+ghost use Rattle.wal_log.specs.Reads.{EndsOnDevice, ReadsLog};
 ghost use Rattle.wal_log.specs.Records.{record_of, IsRecord};
 ghost use Rattle.wal_log.specs.Segments.{segment_records, segments_of};
 ghost use Rattle.wal_log.specs.Rules.{HasRecords};

@@ -2,10 +2,12 @@
 ghost use Rattle.std.specs.Prelude.{◌==◌, get_or, false, ◌≡◌, ◌+◌, ◌<◌, ◌≤◌, ◌^◌, ◌++◌, [], ◌∷◌, Some, None, IfOk, IfErr, OnOk, ℕ, length, drop, replicate, All, take};
 ghost use Rattle.std.specs.Bool.{OnTrue, OnFalse};
 ghost use Rattle.dev_model.specs.Story.{WhereTold, bytes_of};
-ghost use Rattle.wal_log.specs.Places.{EndsOnDevice, ReadsLog, segment_start};
+ghost use Rattle.wal_log.specs.Places.{segment_start};
+ghost use Rattle.wal_log.specs.Reads.{EndsOnDevice, ReadsLog};
 ghost use Rattle.wal_log.specs.State.{IsStill};
 ghost use Rattle.wal_log.specs.Segments.{segments_of};
-ghost use Rattle.wal_log.specs.Rules.{Opens, IsBad, records_of};
+ghost use Rattle.wal_log.specs.Rules.{Opens, records_of};
+ghost use Rattle.wal_log.specs.Bad.{IsBad};
 ghost use Rattle.wal_log.specs.Found.{IsOpenStill, WhereBad, HasCauseOfFault};
 ghost use Rattle.wal_log.specs.Walk.{GoesOn, StartsAfter, EndsThere, HasReadSegment, IsUnsound, IsNewest, IsEndOf, IsCountedEnd};
 

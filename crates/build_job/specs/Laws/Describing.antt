@@ -2,7 +2,8 @@
 use Rattle.std.proofs.Common.{◌≡◌, ℕ, arith, refl, subst, sym, inl}
 use Rattle.comp_dir.specs.declared.slots.Slot.{Slot}
 use Rattle.comp_dir.specs.Rules.{IsSound}
-use Rattle.build_job.specs.Jobs.{Job, IsJob, IsPlaceable, described}
+use Rattle.build_job.specs.Jobs.{Job, described}
+use Rattle.build_job.specs.Steps.{IsJob, IsPlaceable}
 
 pub described-IsSound : (pages declared : ℕ) (job : Job) → IsJob job → IsPlaceable pages job → IsSound pages declared (described job)
 described-IsSound pages declared job is stands =

@@ -2,7 +2,8 @@
 use Rattle.std.proofs.Common.{◌≡◌, ◌≢◌, ℕ, ◌+◌, List, length, arith, refl, sym, subst, below_more}
 use Rattle.btree_image.specs.Image.{shape_of, ShowsTree}
 use Rattle.primary_ix.specs.Rows.{prim_layout}
-use Rattle.build_job.specs.Jobs.{Job, IsJob, steps_left}
+use Rattle.build_job.specs.Jobs.{Job}
+use Rattle.build_job.specs.Steps.{IsJob, steps_left}
 use Rattle.build_job.specs.Written.{IsPageOf, AreWritten}
 use Rattle.build_job.specs.Laws.Placing.{page_below}
 

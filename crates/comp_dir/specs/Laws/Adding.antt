@@ -10,7 +10,8 @@ use Rattle.std.proofs.lemmas.List.{get_or_default, set-get_or, get_or-set_same, 
 use Rattle.comp_dir.specs.Slots.{slot_bytes, slot_of}
 use Rattle.comp_dir.specs.Directory.{Directory, Numbered, open_from, open_slots}
 use Rattle.comp_dir.specs.Rules.{HasInterval, IsSound, IsSlot, AllObey}
-use Rattle.comp_dir.specs.Choosing.{shares_page, same_index, is_hidden_by, is_ignored, is_live, live_slots, ignored_slots, clashes, is_lower, overlaps_lower, clashes_with_lower, is_followed_by, continues, lower_of_index, fits_live, is_bad, first_bad, bad_slot, Opens}
+use Rattle.comp_dir.specs.Choosing.{shares_page, same_index, is_hidden_by, is_ignored, is_live, live_slots, clashes, is_lower, overlaps_lower, clashes_with_lower, is_followed_by, continues, lower_of_index, fits_live, is_bad, first_bad, bad_slot, Opens}
+use Rattle.comp_dir.specs.Ignored.{ignored_slots}
 use Rattle.comp_dir.specs.State.{with_slot}
 use Rattle.comp_dir.specs.Adding.{IsAddable, MayBeAdded, HasOneMore}
 use Rattle.comp_dir.specs.Laws.OneMore.{one_more-cons, any-same, any-kept, filter-more, filter-same, length-more, All-more, filter-agree, in-filter, filter-narrower, filter-fewer}

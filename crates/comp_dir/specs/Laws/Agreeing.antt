@@ -7,7 +7,7 @@ use Rattle.dev_model.specs.Story.{Bytes, Story, bytes_of, IsImageNow}
 use Rattle.dev_model.specs.Laws.Ranges.{part-same}
 use Rattle.comp_dir.specs.Places.{slot_start}
 use Rattle.comp_dir.specs.Directory.{slot_body, slot_at, slots_from, directory_of, IsLookedInSlot, IsLooked}
-use Rattle.comp_dir.specs.State.{IsAtRest}
+use Rattle.comp_dir.specs.Resting.{IsAtRest}
 
 pub slot_at-open : (n : ℕ) (a : Bytes) → a (slot_start n) ≡ 165 → slot_at n a ≡ Some (slot_body n a)
 slot_at-open n a is = grind (arith, nat_tests)

@@ -8,7 +8,8 @@ use Rattle.std.proofs.lemmas.List.Elements.{filter_agree, filter_passes, All-nil
 use Rattle.std.proofs.lemmas.List.{get_or_past}
 use Rattle.comp_dir.specs.Slots.{slot_of}
 use Rattle.comp_dir.specs.Directory.{Directory, Numbered, open_from, open_slots}
-use Rattle.comp_dir.specs.Choosing.{shares_page, is_hidden_by, is_ignored, is_live, live_slots, ignored_slots, numbers, clashes, is_lower, overlaps_lower, clashes_with_lower, fits_live, is_bad, bad_slot, Opens}
+use Rattle.comp_dir.specs.Choosing.{shares_page, is_hidden_by, is_ignored, is_live, live_slots, clashes, is_lower, overlaps_lower, clashes_with_lower, fits_live, is_bad, bad_slot, Opens}
+use Rattle.comp_dir.specs.Ignored.{ignored_slots, numbers}
 use Rattle.comp_dir.specs.State.{without_slot}
 use Rattle.comp_dir.specs.Adding.{MayBeClosed, HasOneMore}
 use Rattle.comp_dir.specs.Laws.OneMore.{any-same, any-kept, any-none, any-weaker, filter-same, filter-all, filter-swap, All-fewer}

@@ -1,7 +1,8 @@
 -- The slot that its bytes give back. No public contract needs this law.
 use Rattle.std.proofs.Common.{◌≡◌}
 use Rattle.std.proofs.lemmas.Nat.{from_be_bytes-to_be_bytes_4, from_be_bytes-to_be_bytes_8}
-use Rattle.comp_dir.specs.Slots.{slot_bytes, slot_of, HasRanges}
+use Rattle.comp_dir.specs.Slots.{slot_bytes, slot_of}
+use Rattle.comp_dir.specs.Ranges.{HasRanges}
 use Rattle.comp_dir.specs.declared.slots.Slot.{Slot}
 
 pub slot-back : (s : Slot) → HasRanges s → slot_of (slot_bytes s) ≡ s

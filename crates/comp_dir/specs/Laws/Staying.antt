@@ -3,11 +3,13 @@ use Rattle.std.proofs.Common.{◌≡◌, inl, inr, ⊎_elim, ℕ, ◌+◌, ◌<�
 use Rattle.std.proofs.lemmas.Bool.{cases_eq}
 use Rattle.std.proofs.lemmas.Option.{same_Some}
 use Rattle.dev_model.specs.Story.{Story, Sync, Calls, with_call, after, bytes_of, IsOutside}
-use Rattle.dev_model.specs.Moments.{LeavesOnly, AreSpared, WritesWithin}
+use Rattle.dev_model.specs.Moments.{LeavesOnly}
+use Rattle.dev_model.specs.Writes.{AreSpared, WritesWithin}
 use Rattle.dev_model.specs.Laws.Frame.{Stays, frame, bytes_of-spared, IsSettled-spared}
 use Rattle.comp_dir.specs.Places.{slot_start}
 use Rattle.comp_dir.specs.Directory.{directory_of, IsLooked}
-use Rattle.comp_dir.specs.State.{IsAtRest, IsClosed, IsWritten, IsReady, HasStayed}
+use Rattle.comp_dir.specs.State.{IsClosed, IsWritten, IsReady, HasStayed}
+use Rattle.comp_dir.specs.Resting.{IsAtRest}
 use Rattle.comp_dir.specs.Laws.Agreeing.{directory-same, looked-back, looked-elsewhere, slot_body-same}
 use Rattle.comp_dir.specs.declared.slots.Slot.{Slot}
 

@@ -2,7 +2,7 @@
 use Rattle.std.proofs.Common.{◌≡◌, ◌⊎◌, inl, inr, ⊎_elim, ℕ, ◌+◌, ◌<◌, ◌≤◌, Option, Some, sym, ◌∙◌, subst, arith}
 use Rattle.std.proofs.lemmas.Option.{same_Some}
 use Rattle.dev_model.specs.Story.{Story, after, bytes_of, IsOutside}
-use Rattle.dev_model.specs.Moments.{WritesWithin}
+use Rattle.dev_model.specs.Writes.{WritesWithin}
 use Rattle.dev_model.specs.Laws.Frame.{bytes_of-spared}
 use Rattle.wal_log.specs.Segments.{segments_of}
 use Rattle.wal_log.specs.Laws.Agreeing.{segment_records-few}

@@ -22,8 +22,9 @@ use Rattle.wal_log.specs.declared.records.Record.{Record}
 use Rattle.image_model.specs.Recovered.{write_of, replayed}
 use Rattle.primary_ix.specs.Rows.{Matter}
 use Rattle.primary_ix.specs.declared.rows.PrimRow.{PrimRow}
-use Rattle.component_image.specs.Laid.{place_in, with_matter, laid, table_of, rows_together}
-use Rattle.component_image.specs.Told.{AreTold, rows_after, counted}
+use Rattle.component_image.specs.Laid.{place_in, with_matter, laid, table_of}
+use Rattle.component_image.specs.Counted.{rows_together, rows_after, counted}
+use Rattle.component_image.specs.Told.{AreTold}
 
 -- the rows of a table
 abbrev count_of : Table → ℕ

@@ -3,7 +3,8 @@
 use Rattle.std.proofs.Common.{◌≡◌, ◌⊎◌, inl, inr, ⊎_elim, ℕ, ◌+◌, ◌<◌, ◌≤◌, [], ◌∷◌, ◌++◌, Option, Some, None, set, sym, ◌∙◌, ap, subst, arith}
 use Rattle.std.proofs.lemmas.Option.{same_Some}
 use Rattle.dev_model.specs.Story.{Bytes, Story, clock_of, bytes_of, IsOutside, IsSettled, IsImageNow}
-use Rattle.dev_model.specs.Moments.{EachMoment, WritesWithin}
+use Rattle.dev_model.specs.Moments.{EachMoment}
+use Rattle.dev_model.specs.Writes.{WritesWithin}
 use Rattle.dev_model.specs.Laws.CallLists.{clock_of-after}
 use Rattle.dev_model.specs.Laws.Images.{IsImage-bytes}
 use Rattle.dev_model.specs.Laws.Runs.{EachMoment-both, EachMoment-weaker}
@@ -12,7 +13,8 @@ use Rattle.table_model.specs.Answers.{after_write}
 use Rattle.wal_log.specs.Later.{later}
 use Rattle.wal_log.specs.Segments.{segments_of}
 use Rattle.wal_log.specs.Rules.{Opens as LogOpens, records_of}
-use Rattle.wal_log.specs.State.{IsStill, IsAtRest as LogAtRest, IsLogOf, HasRecordsOr, HasSameRecords, OpensAs}
+use Rattle.wal_log.specs.State.{IsStill, IsAtRest as LogAtRest, IsLogOf}
+use Rattle.wal_log.specs.Changes.{HasRecordsOr, HasSameRecords, OpensAs}
 use Rattle.wal_log.specs.Laws.Apart.{images-apart, rests-apart}
 use Rattle.wal_log.specs.declared.places.TheConstants.{LOG_BYTES}
 use Rattle.wal_log.specs.declared.log.Log.{Log}
@@ -20,8 +22,10 @@ use Rattle.wal_log.specs.declared.records.Record.{Record}
 use Rattle.image_model.specs.declared.places.TheConstants.{LOG_START}
 use Rattle.image_model.specs.Recovered.{write_of}
 use Rattle.component_image.specs.Components.{end_of}
-use Rattle.component_image.specs.Recovered.{primary_of, ends_of, IsLookedAt, IsBeside, Recovers}
-use Rattle.component_image.specs.Resting.{Rests, RecoversEither}
+use Rattle.component_image.specs.Recovered.{primary_of, ends_of, IsLookedAt, Recovers}
+use Rattle.component_image.specs.Beside.{IsBeside}
+use Rattle.component_image.specs.Resting.{Rests}
+use Rattle.component_image.specs.Standing.{RecoversEither}
 use Rattle.component_image.specs.Told.{SaysOld}
 use Rattle.component_image.specs.Laws.Agreeing.{AgreeBeside, recovers-same}
 use Rattle.component_image.specs.Laws.Logging.{recovers-kept, recovers-logged, recovers-append, recovers-turn}

@@ -2,7 +2,7 @@
 use Rattle.std.proofs.Common.{◌≡◌, inr, ℕ, ◌+◌, ◌≤◌, List, [], ◌∷◌, Option, Some, sym, ◌∙◌, ap, subst, arith}
 use Rattle.std.proofs.lemmas.Option.{same_Some}
 use Rattle.dev_model.specs.Story.{Bytes, Story, after, bytes_of}
-use Rattle.dev_model.specs.Moments.{WritesWithin}
+use Rattle.dev_model.specs.Writes.{WritesWithin}
 use Rattle.dev_model.specs.Laws.Frame.{bytes_of-spared}
 use Rattle.table_model.specs.Table.{Table}
 use Rattle.wal_log.specs.declared.records.Record.{Record}
@@ -17,7 +17,7 @@ use Rattle.component_image.specs.Changes.{changed}
 use Rattle.component_image.specs.Components.{components}
 use Rattle.component_image.specs.Content.{Shows, ShowAll}
 use Rattle.component_image.specs.Recovered.{primary_of, IsContent, Recovers}
-use Rattle.component_image.specs.Resting.{MayStand}
+use Rattle.component_image.specs.Standing.{MayStand}
 use Rattle.component_image.specs.Laws.Components.{AllOf}
 use Rattle.component_image.specs.Laws.Agreeing.{IsPrimary, primaries, Shows-same, ShowAll-same}
 use Rattle.component_image.specs.Laws.Resting.{content-behind}

@@ -8,7 +8,7 @@ use Rattle.wal_log.specs.Later.{later}
 use Rattle.wal_log.specs.Laws.Later.{later-push}
 use Rattle.wal_log.specs.Segments.{segments_of}
 use Rattle.wal_log.specs.Rules.{records_of}
-use Rattle.wal_log.specs.State.{OpensAs, HasRecordsOr, HasSameRecords}
+use Rattle.wal_log.specs.Changes.{OpensAs, HasRecordsOr, HasSameRecords}
 use Rattle.wal_log.specs.declared.records.Record.{Record}
 use Rattle.image_model.specs.declared.places.TheConstants.{LOG_START}
 use Rattle.image_model.specs.Recovered.{write_of, replayed}

@@ -2,7 +2,8 @@
 use Rattle.std.proofs.Common.{◌≡◌, ◌⊎◌, inl, inr, ℕ, ◌+◌, ◌≤◌, List, [], ◌∷◌, length, Option, Some, refl, sym, ◌∙◌, ap, subst, arith}
 use Rattle.std.proofs.lemmas.Option.{same_Some}
 use Rattle.dev_model.specs.Story.{Bytes, Story, after, clock_of, bytes_of, IsCalmAt, IsSettled, IsOutside}
-use Rattle.dev_model.specs.Moments.{EachMoment, WritesWithin}
+use Rattle.dev_model.specs.Moments.{EachMoment}
+use Rattle.dev_model.specs.Writes.{WritesWithin}
 use Rattle.dev_model.specs.Laws.Frame.{IsSettled-spared, EachMoment-spared}
 use Rattle.dev_model.specs.Laws.Images.{IsImage-bytes}
 use Rattle.table_model.specs.Table.{Table, rows_of}
@@ -19,7 +20,8 @@ use Rattle.image_model.specs.Opening.{IsLookedInSuperblock}
 use Rattle.comp_dir.specs.Places.{slot_start}
 use Rattle.comp_dir.specs.Directory.{directory_of}
 use Rattle.comp_dir.specs.Choosing.{Opens as DirectoryOpens}
-use Rattle.comp_dir.specs.State.{IsAtRest as DirectoryAtRest, IsOneOf, with_slot}
+use Rattle.comp_dir.specs.State.{IsOneOf, with_slot}
+use Rattle.comp_dir.specs.Resting.{IsAtRest as DirectoryAtRest}
 use Rattle.comp_dir.specs.declared.places.TheConstants.{PRIMARY}
 use Rattle.comp_dir.specs.declared.slots.Slot.{Slot}
 use Rattle.primary_ix.specs.declared.rows.PrimRow.{PrimRow}
@@ -27,7 +29,8 @@ use Rattle.component_image.specs.Changes.{changed}
 use Rattle.component_image.specs.Components.{components, IsInExtent, IsInExtents}
 use Rattle.component_image.specs.Laid.{table_of}
 use Rattle.component_image.specs.Recovered.{primary_of, ends_of, IsContent, Recovers}
-use Rattle.component_image.specs.Resting.{Rests, MayStand}
+use Rattle.component_image.specs.Resting.{Rests}
+use Rattle.component_image.specs.Standing.{MayStand}
 use Rattle.component_image.specs.Laws.Components.{AllOf}
 use Rattle.component_image.specs.Laws.Agreeing.{IsPrimary, primaries, Shows-same}
 use Rattle.component_image.specs.Laws.Logging.{recovers-kept}

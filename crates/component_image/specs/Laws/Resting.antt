@@ -2,7 +2,8 @@
 use Rattle.std.proofs.Common.{◌≡◌, ◌⊎◌, inl, inr, ⊎_elim, ℕ, ◌+◌, ◌<◌, ◌≤◌, List, [], ◌∷◌, Option, Some, refl, sym, ◌∙◌, subst, arith}
 use Rattle.std.proofs.lemmas.Option.{same_Some}
 use Rattle.dev_model.specs.Story.{Bytes, Story, after, clock_of, bytes_of, IsSettled, IsOutside}
-use Rattle.dev_model.specs.Moments.{EachMoment, WritesWithin}
+use Rattle.dev_model.specs.Moments.{EachMoment}
+use Rattle.dev_model.specs.Writes.{WritesWithin}
 use Rattle.dev_model.specs.Laws.Frame.{IsSettled-spared, bytes_of-spared, EachMoment-spared}
 use Rattle.dev_model.specs.Laws.Runs.{EachMoment-weaker}
 use Rattle.table_model.specs.Table.{Table}
@@ -17,7 +18,8 @@ use Rattle.comp_dir.specs.Laws.Agreeing.{directory-same, looked-back}
 use Rattle.comp_dir.specs.declared.places.TheConstants.{PRIMARY}
 use Rattle.comp_dir.specs.declared.slots.Slot.{Slot}
 use Rattle.component_image.specs.Components.{components, IsInExtents}
-use Rattle.component_image.specs.Recovered.{primary_of, IsContent, IsBeside, Recovers}
+use Rattle.component_image.specs.Recovered.{primary_of, IsContent, Recovers}
+use Rattle.component_image.specs.Beside.{IsBeside}
 use Rattle.component_image.specs.Resting.{Rests}
 use Rattle.component_image.specs.Laws.Components.{AllOf, components-all}
 use Rattle.component_image.specs.Laws.Agreeing.{AgreeBeside}

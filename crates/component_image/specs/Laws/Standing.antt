@@ -2,7 +2,7 @@
 use Rattle.std.proofs.Common.{◌≡◌, ◌⊎◌, ℕ, ◌+◌, ◌≤◌, List, [], ◌∷◌, ◌++◌, Option, Some, sym, ◌∙◌, ap, subst}
 use Rattle.std.proofs.lemmas.Option.{same_Some}
 use Rattle.dev_model.specs.Story.{Story, after, bytes_of, IsOutside}
-use Rattle.dev_model.specs.Moments.{WritesWithin}
+use Rattle.dev_model.specs.Writes.{WritesWithin}
 use Rattle.dev_model.specs.Laws.Frame.{bytes_of-spared}
 use Rattle.table_model.specs.Table.{Table}
 use Rattle.wal_log.specs.Later.{later}
@@ -21,8 +21,10 @@ use Rattle.primary_ix.specs.declared.rows.PrimRow.{PrimRow}
 use Rattle.component_image.specs.Changes.{changed}
 use Rattle.component_image.specs.Components.{components, end_of, IsInExtent}
 use Rattle.component_image.specs.Content.{ShowAll}
-use Rattle.component_image.specs.Recovered.{primary_of, ends_of, IsBeside}
-use Rattle.component_image.specs.Resting.{Rests, MayStand}
+use Rattle.component_image.specs.Recovered.{primary_of, ends_of}
+use Rattle.component_image.specs.Beside.{IsBeside}
+use Rattle.component_image.specs.Resting.{Rests}
+use Rattle.component_image.specs.Standing.{MayStand}
 use Rattle.component_image.specs.Laws.Components.{AllOf}
 use Rattle.component_image.specs.Laws.Agreeing.{AgreeBeside, IsPrimary, primaries, Shows-same, ShowAll-same}
 use Rattle.component_image.specs.Laws.Resting.{beside-agrees}

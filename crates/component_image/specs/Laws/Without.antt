@@ -10,7 +10,7 @@ use Rattle.wal_log.specs.Segments.{segments_of}
 use Rattle.wal_log.specs.Rules.{Numbered, first_lsn_of, OpensFrom, Opens as LogOpens, in_order, records_in, records_of}
 use Rattle.image_model.specs.declared.places.TheConstants.{LOG_START}
 use Rattle.image_model.specs.Directory.{HasNoComponent}
-use Rattle.image_model.specs.Recovered.{replayed, Recovers as RecoversAlone}
+use Rattle.image_model.specs.Recovered.{replayed}
 use Rattle.comp_dir.specs.Places.{slot_start}
 use Rattle.comp_dir.specs.Directory.{Numbered as NumberedSlot, slots_from, directory_of, open_from, open_slots}
 use Rattle.comp_dir.specs.Choosing.{Opens as DirectoryOpens, bad_slot, live_slots}
@@ -23,6 +23,7 @@ use Rattle.component_image.specs.Content.{ShowAll, Count}
 use Rattle.component_image.specs.Laid.{table_of}
 use Rattle.component_image.specs.Recovered.{primary_of, ends_of, Recovers}
 use Rattle.component_image.specs.Told.{AreTold}
+use Rattle.component_image.specs.Alone.{RecoversAlone}
 
 none_open : (count n m : ℕ) (bytes : Bytes) → ((k : ℕ) → n ≤ k → k < n + count → bytes (slot_start k) ≢ 165) → open_from m (slots_from count n bytes) ≡ []
 unfolding slots_from
@@ -63,21 +64,20 @@ module _ (bytes : Bytes) (none : HasNoComponent bytes) where
       by_order [] opens = refl
       by_order (n ∷ ns) opens = later-whole 0 (first_lsn_of n) (records_in (n ∷ ns)) (numbered (0 ∷ []) None n ns opens) (omega (arith, opens.0.segment.start.follows.1))
 
-  -- it recovers as an image that has none, where the log's records are told of the empty table
-  pub recovers-alone : (pages : ℕ) (table : Table) → RecoversAlone pages table bytes → AreTold empty (records_of (segments_of LOG_START bytes)) → Recovers pages table bytes
-  recovers-alone pages table r told = record {
+  pub recovers-alone : (pages : ℕ) (table : Table) → RecoversAlone pages table bytes → Recovers pages table bytes
+  recovers-alone pages table r = record {
     opens = record {
-      formatted = r.opens.formatted;
+      formatted = r.formatted;
       directory = directory_opens pages;
-      log = subst (λ (x : List Slot). LogOpens (ends_of x) (segments_of LOG_START bytes)) (sym no_components) r.opens.log;
+      log = subst (λ (x : List Slot). LogOpens (ends_of x) (segments_of LOG_START bytes)) (sym no_components) r.log;
     };
     lists = [];
     shown = subst (λ (x : List Slot). ShowAll bytes x []) (sym no_components) tt;
     counted = subst (λ (x : List Slot). Count x []) (sym no_components) tt;
-    table_is = sym r.table_is ∙ ap (replayed empty) (sym (all_later r.opens.log))
+    table_is = sym r.table_is ∙ ap (replayed empty) (sym (all_later r.log))
         ∙ ap (λ (x : List Slot). replayed empty (later (end_of x) (records_of (segments_of LOG_START bytes)))) (sym no_components);
     told = subst (λ (x : List Slot). AreTold empty (later (end_of x) (records_of (segments_of LOG_START bytes)))) (sym no_components)
-        (subst (AreTold empty) (sym (all_later r.opens.log)) told);
+        (subst (AreTold empty) (sym (all_later r.log)) r.told);
   }
 
   no_lists : (lists : List (List PrimRow)) → ShowAll bytes [] lists → lists ≡ []
@@ -87,17 +87,16 @@ module _ (bytes : Bytes) (none : HasNoComponent bytes) where
   pub alone-recovers : (pages : ℕ) (table : Table) → Recovers pages table bytes → RecoversAlone pages table bytes
   alone-recovers pages table r =
       let log : LogOpens (0 ∷ []) (segments_of LOG_START bytes) = subst (λ (x : List Slot). LogOpens (ends_of x) (segments_of LOG_START bytes)) no_components r.opens.log in
+      let lists : r.lists ≡ [] = no_lists r.lists (subst (λ (x : List Slot). ShowAll bytes x r.lists) no_components r.shown) in
       record {
-        opens = record { formatted = r.opens.formatted; directory = none; log = log };
+        formatted = r.opens.formatted;
+        log = log;
         table_is = sym (r.table_is
             ∙ ap (λ (x : List Slot). replayed (table_of r.lists) (later (end_of x) (records_of (segments_of LOG_START bytes)))) no_components
             ∙ ap (replayed (table_of r.lists)) (all_later log)
-            ∙ ap (λ (l : List (List PrimRow)). replayed (table_of l) (records_of (segments_of LOG_START bytes))) (no_lists r.lists (subst (λ (x : List Slot). ShowAll bytes x r.lists) no_components r.shown)));
+            ∙ ap (λ (l : List (List PrimRow)). replayed (table_of l) (records_of (segments_of LOG_START bytes))) lists);
+        told =
+            subst (λ (l : List (List PrimRow)). AreTold (table_of l) (records_of (segments_of LOG_START bytes))) lists
+            (subst (AreTold (table_of r.lists)) (all_later log)
+            (subst (λ (x : List Slot). AreTold (table_of r.lists) (later (end_of x) (records_of (segments_of LOG_START bytes)))) no_components r.told));
       }
-
-  pub alone-told : (pages : ℕ) (table : Table) → Recovers pages table bytes → AreTold empty (records_of (segments_of LOG_START bytes))
-  alone-told pages table r =
-      let log : LogOpens (0 ∷ []) (segments_of LOG_START bytes) = subst (λ (x : List Slot). LogOpens (ends_of x) (segments_of LOG_START bytes)) no_components r.opens.log in
-      subst (λ (l : List (List PrimRow)). AreTold (table_of l) (records_of (segments_of LOG_START bytes))) (no_lists r.lists (subst (λ (x : List Slot). ShowAll bytes x r.lists) no_components r.shown))
-      (subst (AreTold (table_of r.lists)) (all_later log)
-      (subst (λ (x : List Slot). AreTold (table_of r.lists) (later (end_of x) (records_of (segments_of LOG_START bytes)))) no_components r.told))

@@ -1,8 +1,10 @@
 -- The frame rule: what a run of calls leaves alone. No public contract needs it.
 use Rattle.std.proofs.Common.{◌≡◌, inl, inr, ℕ, ◌+◌, ◌≤◌, [], ◌∷◌, ◌++◌, Option, Some, Result, Ok, Err, refl, sym, ◌∙◌, ap, subst, arith, ⊎_elim}
 use Rattle.std.proofs.lemmas.Option.{same_Some}
-use Rattle.dev_model.specs.Story.{Bytes, Call, Read, Write, Sync, FailedWrite, FailedCall, Calls, Story, clock_of, with_call, after, bytes_of, HasFailed, HasStoppedIn, Did, IsOutside, IsSettled, IsSpared, WhereTold}
-use Rattle.dev_model.specs.Moments.{EachMoment, LeavesOnly, AreSpared, IsImageAmid, WritesWithin}
+use Rattle.dev_model.specs.Story.{Bytes, Call, Read, Write, Sync, FailedWrite, FailedCall, Calls, Story, clock_of, with_call, after, bytes_of, IsOutside, IsSettled, IsSpared, WhereTold}
+use Rattle.dev_model.specs.Doing.{HasFailed, HasStoppedIn, Did}
+use Rattle.dev_model.specs.Moments.{EachMoment, LeavesOnly}
+use Rattle.dev_model.specs.Writes.{AreSpared, IsImageAmid, WritesWithin}
 use Rattle.dev_model.specs.Laws.Ranges.{patched-outside}
 use Rattle.dev_model.specs.Laws.Images.{IsReadable-settled}
 use Rattle.dev_model.specs.Laws.Runs.{During, EachMoment-after, EachMoment-start, after-append}

@@ -1,8 +1,9 @@
 -- Laws of `Did` and `Ticks`: calls that were planned, of which one may have failed. No public contract needs them.
 use Rattle.std.proofs.Common.{append_assoc, ◌≡◌, inl, inr, ℕ, ◌+◌, List, [], ◌∷◌, ◌++◌, Option, Some, None, Result, Ok, Err, refl, sym, ◌∙◌, ap, subst, arith}
-use Rattle.dev_model.specs.Story.{Bytes, Call, Read, Write, Sync, FailedWrite, FailedCall, Calls, Story, with_call, bytes_of, after, noted, all_noted, IsImageDuring, IsImageNow, HasChangedNothing, HasFailed, HasStoppedIn, Tells, Did}
+use Rattle.dev_model.specs.Story.{Bytes, Call, Read, Write, Sync, FailedWrite, FailedCall, Calls, Story, with_call, bytes_of, after, IsImageDuring, IsImageNow}
+use Rattle.dev_model.specs.Doing.{noted, all_noted, HasChangedNothing, HasFailed, HasStoppedIn, Did, Ticks}
+use Rattle.dev_model.specs.Answers.{Tells}
 use Rattle.dev_model.specs.Laws.Ranges.{patched-outside}
-use Rattle.dev_model.specs.Story.{Ticks}
 use Rattle.dev_model.specs.Moments.{LeavesOnly}
 use Rattle.dev_model.specs.Laws.Images.{IsReadable-settled}
 use Rattle.dev_model.specs.Laws.Runs.{During, During-append, During-last, after-append, LeavesOnly-calls, LeavesOnly-failed}

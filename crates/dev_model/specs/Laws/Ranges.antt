@@ -1,7 +1,8 @@
 -- Laws of bytes, of their ranges and of what is written over them.
 use Rattle.std.proofs.Common.{◌≡◌, ℕ, ◌+◌, ◌-◌, ◌<◌, ◌≤◌, List, [], ◌∷◌, length, get_or, refl, sym, ◌∙◌, ap, arith, zero, suc}
 use Rattle.std.proofs.lemmas.Bool.Decides.{nat_tests}
-use Rattle.dev_model.specs.Story.{Bytes, Story, bytes_of, patched, part, IsOutside, IsInside, IsReadable, IsReadFrom}
+use Rattle.dev_model.specs.Story.{Bytes, Story, bytes_of, patched, part, IsOutside, IsInside, IsReadable}
+use Rattle.dev_model.specs.Answers.{IsReadFrom}
 
 -- a write leaves the other bytes
 pub patched-outside : (at : ℕ) (new : List ℕ) (old : Bytes) (i : ℕ) → IsOutside at (length new) i → patched at new old i ≡ old i

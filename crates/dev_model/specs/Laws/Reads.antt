@@ -1,7 +1,10 @@
 -- Laws of runs that only read. No public contract needs them.
 use Rattle.std.proofs.Common.{◌≡◌, ℕ, ◌+◌, List, [], ◌∷◌, ◌++◌, Option, Some, Result, Ok, Err, refl, sym, ◌∙◌, ap, inl, inr}
-use Rattle.dev_model.specs.Story.{Bytes, Read, Write, Sync, FailedWrite, FailedCall, Calls, Story, with_call, after, bytes_of, noted, WhereTold, IsReadable, IsSettled, IsReadFrom, IsImageNow, Tells}
-use Rattle.dev_model.specs.Moments.{LeavesOnly, AreReadsWithin, ReadsWithin, AreSpared, WritesWithin}
+use Rattle.dev_model.specs.Story.{Bytes, Read, Write, Sync, FailedWrite, FailedCall, Calls, Story, with_call, after, bytes_of, WhereTold, IsReadable, IsSettled, IsImageNow}
+use Rattle.dev_model.specs.Doing.{noted}
+use Rattle.dev_model.specs.Answers.{IsReadFrom, Tells}
+use Rattle.dev_model.specs.Moments.{LeavesOnly, AreReadsWithin, ReadsWithin}
+use Rattle.dev_model.specs.Writes.{AreSpared, WritesWithin}
 use Rattle.dev_model.specs.Laws.Runs.{During, LeavesOnly-calls, after-append}
 
 -- reads leave the bytes, what can be read and what is settled

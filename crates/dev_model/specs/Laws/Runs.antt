@@ -1,7 +1,8 @@
 -- Laws of what holds at each moment of a run. No public contract needs them.
 use Rattle.std.proofs.Common.{◌≡◌, ◌⊎◌, inl, inr, ⊎_elim, ℕ, ◌<◌, ◌≤◌, [], ◌∷◌, ◌++◌, Option, Some, refl, sym, ◌∙◌, ap, subst, arith, zero, suc}
 use Rattle.std.proofs.lemmas.Option.{same_Some}
-use Rattle.dev_model.specs.Story.{Bytes, Call, Read, Write, Sync, FailedWrite, FailedCall, Calls, Story, clock_of, with_call, after, noted, WhereTold, IsImage, IsImageDuring, IsImageNow, HasChangedNothing, HasFailed}
+use Rattle.dev_model.specs.Story.{Bytes, Call, Read, Write, Sync, FailedWrite, FailedCall, Calls, Story, clock_of, with_call, after, WhereTold, IsImage, IsImageDuring, IsImageNow}
+use Rattle.dev_model.specs.Doing.{noted, HasChangedNothing, HasFailed}
 use Rattle.dev_model.specs.Moments.{EachMoment, LeavesOnly}
 use Rattle.dev_model.specs.Laws.Images.{IsImage-earlier, IsImage-during, IsImage-now, IsImageNow-during, IsImage-older}
 

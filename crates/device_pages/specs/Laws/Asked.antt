@@ -2,14 +2,16 @@
 use Rattle.std.proofs.Common.{◌≡◌, ℕ, suc, ◌+◌, ◌-◌, ◌*◌, ◌^◌, Bool, true, false, List, [], ◌∷◌, ◌++◌, length, Option, Some, None, refl, sym, ◌∙◌, ap, arith}
 use Rattle.std.specs.Prelude.{nat_lt, if◌then◌else◌, map, All}
 use Rattle.space_map.specs.declared.space.Extent.{Extent}
-use Rattle.dev_model.specs.Story.{Call, Read, Write, Sync, FailedWrite, FailedCall, Calls, Story, after, noted, all_noted}
+use Rattle.dev_model.specs.Story.{Call, Read, Write, Sync, FailedWrite, FailedCall, Calls, Story, after}
+use Rattle.dev_model.specs.Doing.{noted, all_noted}
 use Rattle.dev_model.specs.Moments.{AreReadsWithin, ReadsWithin}
 use Rattle.dev_model.specs.DeviceCalls.{made_at, ok_calls}
 use Rattle.dev_model.specs.declared.calls.DeviceCall.{DeviceCall}
 use Rattle.dev_model.specs.declared.calls.DeviceAct.TheVariants.{ReadAt}
 use Rattle.dev_model.specs.Laws.Plans.{all_noted-told}
 use Rattle.device_pages.specs.declared.lending.TheConstants.{PAGE_BYTES}
-use Rattle.device_pages.specs.Asked.{Seen, Asked, calls_of, read_of, pages_of, reads_made}
+use Rattle.device_pages.specs.Asked.{Seen, Asked, calls_of, read_of, pages_of}
+use Rattle.device_pages.specs.ReadsMade.{reads_made}
 use Rattle.device_pages.specs.Lending.{contents_of}
 
 -- nothing was asked for

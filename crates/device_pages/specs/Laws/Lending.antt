@@ -6,12 +6,13 @@ use Rattle.std.specs.Prelude.{IsTrue, All, ◌||◌, ◌&&◌, not, if◌then◌
 use Rattle.space_map.specs.declared.space.Extent.{Extent}
 use Rattle.space_map.specs.Space.{end_of, is_in}
 use Rattle.dev_model.specs.Story.{Call, Read, Write, Sync, FailedWrite, FailedCall, Past, Calls, Story, with_call, after, bytes_of, IsInside, IsOutside, IsReadable, IsCalmAt, IsSpared}
-use Rattle.dev_model.specs.Moments.{AreSpared}
+use Rattle.dev_model.specs.Writes.{AreSpared}
 use Rattle.dev_model.specs.Laws.Images.{IsReadable-settled}
 use Rattle.dev_model.specs.Laws.Frame.{bytes_of-spared}
 use Rattle.dev_model.specs.Laws.Ranges.{part-same}
 use Rattle.device_pages.specs.declared.lending.TheConstants.{PAGE_BYTES}
-use Rattle.device_pages.specs.Lending.{is_lent, IsLentPlace, is_inside, is_readable, each_place, are_readable, page_bytes, contents_of}
+use Rattle.device_pages.specs.Lending.{is_lent, is_inside, is_readable, each_place, are_readable, page_bytes, contents_of}
+use Rattle.device_pages.specs.LentPlaces.{IsLentPlace}
 
 -- a lent page lies below where all extents end
 pub lent_below : (end : ℕ) (extents : List Extent) (page : ℕ) → All (λ e. end_of e ≤ end) extents → IsTrue (is_lent extents page) → page < end

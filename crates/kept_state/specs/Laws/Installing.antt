@@ -27,22 +27,25 @@ use Rattle.btree_image.specs.Image.{ShowsTree}
 use Rattle.btree_image.specs.Rows.{Ascends, IsStored}
 use Rattle.primary_ix.specs.Rows.{prim_layout}
 use Rattle.primary_ix.specs.declared.rows.PrimRow.{PrimRow}
-use Rattle.build_job.specs.Jobs.{IsJob, described, steps_left}
+use Rattle.build_job.specs.Jobs.{described}
+use Rattle.build_job.specs.Steps.{IsJob, steps_left}
 use Rattle.build_job.specs.Laws.Showing.{AreWritten-shows}
 use Rattle.component_image.specs.Changes.{changed}
 use Rattle.component_image.specs.Components.{placed, newest_first, components, end_of}
 use Rattle.component_image.specs.Content.{page_at}
 use Rattle.component_image.specs.Laid.{table_of}
 use Rattle.component_image.specs.Recovered.{primary_of}
-use Rattle.component_image.specs.Resting.{MayStand}
+use Rattle.component_image.specs.Standing.{MayStand}
 use Rattle.component_image.specs.Laws.Added.{added-newest}
 use Rattle.component_image.specs.Laws.Components.{AllOf, AllOf-weaker, AllOf-filter, newest_first-all}
 use Rattle.component_image.specs.Laws.Laid.{laid-changed}
 use Rattle.component_image.specs.Laws.Newest.{All-of, open-behind}
 use Rattle.store_state.specs.declared.jobs.JobRow.{JobRow}
-use Rattle.store_state.specs.Lists.{Lists, IsLists, IsPlanned, IsPlannedIf, IsCut, open_of, extent_of, extents_of, frozen_rows, job_of, placed_up_to}
+use Rattle.store_state.specs.Lists.{Lists, open_of, extent_of, extents_of, frozen_rows, job_of, placed_up_to}
+use Rattle.store_state.specs.EveryList.{IsLists, IsPlanned, IsPlannedIf, IsCut}
 use Rattle.kept_state.specs.Laws.Records.{newest-are}
-use Rattle.kept_state.specs.Keeping.{IsKept, IsNumbered, IsFrozenOf, IsUnderWay, IsUnderWayIf}
+use Rattle.kept_state.specs.Keeping.{IsKept, IsFrozenOf, IsUnderWay, IsUnderWayIf}
+use Rattle.kept_state.specs.Numbered.{IsNumbered}
 
 length-directory : (bytes : Bytes) → length (directory_of bytes) ≡ SLOTS
 unfolding directory_of

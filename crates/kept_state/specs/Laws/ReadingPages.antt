@@ -13,20 +13,25 @@ use Rattle.page_codec.specs.Page.{ShowsRows}
 use Rattle.tree_shape.specs.Shape.{level_start, IsPlace}
 use Rattle.tree_shape.specs.declared.levels.Shape.{Shape}
 use Rattle.tree_shape.specs.Laws.Places.{before_root}
-use Rattle.btree_image.specs.Image.{shape_of, level_kind, level_rows, page_number, AreLent, IsShown}
+use Rattle.btree_image.specs.Image.{shape_of, level_kind, level_rows}
+use Rattle.btree_image.specs.Pages.{page_number, IsShown}
+use Rattle.btree_image.specs.Lent.{AreLent}
 use Rattle.comp_dir.specs.Directory.{Numbered}
 use Rattle.comp_dir.specs.Parts.{HasPages, main_tree, tree}
 use Rattle.comp_dir.specs.Rules.{IsDeclared}
 use Rattle.comp_dir.specs.declared.places.TheConstants.{MAIN_LEAVES, MAIN_INNERS, PRIMARY}
 use Rattle.page_codec.specs.declared.pages.TheConstants.{PAGE_BYTES}
-use Rattle.device_pages.specs.Lending.{is_lent, IsLentPlace}
-use Rattle.primary_ix.specs.Components.{AreAllLent, AreShown}
+use Rattle.device_pages.specs.Lending.{is_lent}
+use Rattle.device_pages.specs.LentPlaces.{IsLentPlace}
+use Rattle.primary_ix.specs.Components.{AreShown}
+use Rattle.primary_ix.specs.Pages.{AreAllLent}
 use Rattle.primary_ix.specs.Rows.{prim_layout}
 use Rattle.primary_ix.specs.declared.component.PrimComp.{PrimComp}
 use Rattle.primary_ix.specs.declared.rows.PrimRow.{PrimRow}
 use Rattle.component_image.specs.Components.{IsInExtents}
 use Rattle.component_image.specs.Content.{page_at, ShowAll}
-use Rattle.store_state.specs.Lists.{Lists, IsLists, extent_of, extents_of, trees_of, IsOpenSlot}
+use Rattle.store_state.specs.Lists.{Lists, extent_of, extents_of, trees_of}
+use Rattle.store_state.specs.EveryList.{IsLists, IsOpenSlot}
 
 -- a lent page lies in the first extent or in one of the others
 pub one_or_other : (e : Extent) (extents : List Extent) (page : ℕ) → IsTrue (is_lent (e ∷ extents) page) → IsTrue (is_in page e) ⊎ IsTrue (is_lent extents page)

@@ -6,7 +6,8 @@ use Rattle.std.specs.Option.{option_to_list}
 use Rattle.space_map.specs.declared.space.Extent.{Extent}
 use Rattle.space_map.specs.Space.{is_in}
 use Rattle.dev_model.specs.Story.{Bytes, Read, Write as Written, Sync, FailedWrite, FailedCall, Calls, Story, with_call, after, clock_of, bytes_of, IsReadable, IsOutside, IsImageNow}
-use Rattle.dev_model.specs.Moments.{EachMoment, LeavesOnly, AreSpared, AreReadsWithin, ReadsWithin, WritesWithin}
+use Rattle.dev_model.specs.Moments.{EachMoment, LeavesOnly, AreReadsWithin, ReadsWithin}
+use Rattle.dev_model.specs.Writes.{AreSpared, WritesWithin}
 use Rattle.dev_model.specs.Laws.Images.{IsImage-at_now}
 use Rattle.dev_model.specs.Laws.Reads.{bytes_of-reads, IsReadable-reads, LeavesOnly-reads, WritesWithin-reads}
 use Rattle.dev_model.specs.Laws.Runs.{EachMoment-join}
@@ -23,11 +24,13 @@ use Rattle.comp_dir.specs.Directory.{Numbered, directory_of, open_slots}
 use Rattle.comp_dir.specs.declared.places.TheConstants.{FIRST_DATA_PAGE}
 use Rattle.comp_dir.specs.declared.slots.Slot.{Slot}
 use Rattle.page_codec.specs.declared.pages.TheConstants.{PAGE_BYTES}
-use Rattle.btree_image.specs.Image.{IsShown, ShowsTree}
+use Rattle.btree_image.specs.Image.{ShowsTree}
+use Rattle.btree_image.specs.Pages.{IsShown}
 use Rattle.order_merge.specs.Entries.{Fits}
 use Rattle.order_merge.specs.Views.{lists_of}
 use Rattle.order_merge.specs.laws.Living.{Fits-frozen}
-use Rattle.device_pages.specs.Lending.{is_lent, IsLentPlace, page_bytes, contents_of}
+use Rattle.device_pages.specs.Lending.{is_lent, page_bytes, contents_of}
+use Rattle.device_pages.specs.LentPlaces.{IsLentPlace}
 use Rattle.device_pages.specs.Laws.Lending.{contents-readable, contents-settled, contents-told, contents-spared, page_bytes-spared}
 use Rattle.primary_ix.specs.Components.{AreShown}
 use Rattle.primary_ix.specs.Laws.Fitting.{Fits-write}
@@ -46,7 +49,8 @@ use Rattle.component_image.specs.Laws.Fitting.{fits-logged}
 use Rattle.component_image.specs.Laws.Keeping.{elsewhere-rests, elsewhere-images}
 use Rattle.component_image.specs.Laws.Showing.{same_lists_shown}
 use Rattle.store_state.specs.declared.jobs.JobRow.{JobRow}
-use Rattle.store_state.specs.Lists.{Lists, IsLists, extent_of, frozen_rows, extents_of, trees_of, open_of, placed_up_to, job_of, IsOpenSlot}
+use Rattle.store_state.specs.Lists.{Lists, extent_of, frozen_rows, extents_of, trees_of, open_of, placed_up_to, job_of}
+use Rattle.store_state.specs.EveryList.{IsLists, IsOpenSlot}
 use Rattle.store_state.specs.Steps.{added, begun, frozen_at, installed, one_written}
 use Rattle.kept_state.specs.Keeping.{IsKept, IsUnderWayIf}
 use Rattle.kept_state.specs.Reading.{IsLegible}
@@ -58,7 +62,7 @@ end_of-placed [] = refl
 end_of-placed (e ∷ comps) = refl
 
 -- a store that nothing has stopped can be read
-pub kept-legible : (pages : ℕ) (log : Log) (table : Table) (l : Lists) (s : Story) → IsKept pages log table l s → IsLegible table l s
+pub kept-legible : (pages : ℕ) (log : Log) (table : Table) (l : Lists) (s : Story) (kept : IsKept pages log table l s) → IsLegible table kept.rests.recovers.lists l s
 kept-legible pages log table l s kept =
     let told : contents_of (extents_of l.components) (Some s) ≡ Some (page_bytes s) =
     contents-settled (extents_of l.components) s (λ i place. kept.rests.content_calm i (subst (λ (slots : List Slot). IsInExtents slots i) (sym kept.components) (lent-inside l.components i place))) in
@@ -67,7 +71,6 @@ kept-legible pages log table l s kept =
     let writes : table ≡ replayed (table_of kept.rests.recovers.lists) (kept.frozen_writes ++ kept.active_writes) =
     kept.rests.recovers.table_is ∙ ap (replayed (table_of kept.rests.recovers.lists)) (ap (λ (n : ℕ). later n (records_of (segments_of LOG_START (bytes_of s)))) end ∙ kept.writes) in
     record {
-      disk = kept.rests.recovers.lists;
       shown = shown-told l.components kept.rests.recovers.lists (bytes_of s) (contents_of (extents_of l.components) (Some s)) told shown;
       fits = fits-logged table l.active l.frozen kept.rests.recovers.lists kept.frozen_writes kept.active_writes kept.frozen_is kept.active_is writes;
     }
@@ -79,31 +82,30 @@ told-of comps disk contents shown i lt =
     ((shown.each i none [] lt).bytes, (shown.each i none [] lt).told)
 
 -- calls that touch no page of a component leave the store legible
-pub legible-spared : (table : Table) (l : Lists) (s : Story) (calls : Calls) → IsLists l → IsLegible table l s → ((i : ℕ) → IsLentPlace (extents_of l.components) i → AreSpared calls i)
-    → IsLegible table l (after s calls)
-legible-spared table l s calls is legible spared = record {
-  disk = legible.disk;
+pub legible-spared : (table : Table) (disk : List (List PrimRow)) (l : Lists) (s : Story) (calls : Calls) → IsLists l → IsLegible table disk l s → ((i : ℕ) → IsLentPlace (extents_of l.components) i → AreSpared calls i)
+    → IsLegible table disk l (after s calls)
+legible-spared table disk l s calls is legible spared = record {
   shown = shown_after l.components (components-open l is) legible.shown spared;
   fits = legible.fits;
 }
   where
-    shown_after : (comps : List Numbered) → All (IsOpenSlot l.space.pages) comps → AreShown (contents_of (extents_of comps) (Some s)) (trees_of comps) legible.disk
-        → ((i : ℕ) → IsLentPlace (extents_of comps) i → AreSpared calls i) → AreShown (contents_of (extents_of comps) (Some (after s calls))) (trees_of comps) legible.disk
+    shown_after : (comps : List Numbered) → All (IsOpenSlot l.space.pages) comps → AreShown (contents_of (extents_of comps) (Some s)) (trees_of comps) disk
+        → ((i : ℕ) → IsLentPlace (extents_of comps) i → AreSpared calls i) → AreShown (contents_of (extents_of comps) (Some (after s calls))) (trees_of comps) disk
     shown_after [] all shown spared = record { count = shown.count; each = λ i comp list lt. absurd (omega (arith, lt)) }
     shown_after (e ∷ comps) all shown spared =
-        let told : (bytes : ℕ → List ℕ) × (contents_of (extents_of (e ∷ comps)) (Some s) ≡ Some bytes) = told-of (trees_of (e ∷ comps)) legible.disk (contents_of (extents_of (e ∷ comps)) (Some s)) shown 0 (omega arith) in
+        let told : (bytes : ℕ → List ℕ) × (contents_of (extents_of (e ∷ comps)) (Some s) ≡ Some bytes) = told-of (trees_of (e ∷ comps)) disk (contents_of (extents_of (e ∷ comps)) (Some s)) shown 0 (omega arith) in
         shown-same (is_lent (extents_of (e ∷ comps))) told.0 (page_bytes (after s calls)) (contents_of (extents_of (e ∷ comps)) (Some s)) (contents_of (extents_of (e ∷ comps)) (Some (after s calls)))
-        (trees_of (e ∷ comps)) legible.disk (trees-lent l.space.pages (e ∷ comps) all) told.1
+        (trees_of (e ∷ comps)) disk (trees-lent l.space.pages (e ∷ comps) all) told.1
         (contents-spared (extents_of (e ∷ comps)) s calls told.0 told.1 spared)
         (λ page lent. page_bytes-spared (extents_of (e ∷ comps)) s calls page lent spared ∙ ap (λ (f : ℕ → List ℕ). f page) (contents-told (extents_of (e ∷ comps)) s told.0 told.1).1)
         shown
 
 -- nor do calls that write in a range with no page of a component
-pub legible-within : (table : Table) (l : Lists) (s t : Story) (at count : ℕ) (now : Option Story) → IsLists l → IsLegible table l s → WritesWithin at count s now → now ≡ Some t
-    → ((i : ℕ) → IsLentPlace (extents_of l.components) i → IsOutside at count i) → IsLegible table l t
-legible-within table l s t at count now is legible within told outside =
-    subst (λ (u : Story). IsLegible table l u) (same_Some _ _ (sym within.told ∙ told))
-    (legible-spared table l s within.calls is legible (λ i place. within.spared i (outside i place)))
+pub legible-within : (table : Table) (disk : List (List PrimRow)) (l : Lists) (s t : Story) (at count : ℕ) (now : Option Story) → IsLists l → IsLegible table disk l s → WritesWithin at count s now → now ≡ Some t
+    → ((i : ℕ) → IsLentPlace (extents_of l.components) i → IsOutside at count i) → IsLegible table disk l t
+legible-within table disk l s t at count now is legible within told outside =
+    subst (λ (u : Story). IsLegible table disk l u) (same_Some _ _ (sym within.told ∙ told))
+    (legible-spared table disk l s within.calls is legible (λ i place. within.spared i (outside i place)))
 
 extents-behind : (pages : ℕ) (comps : List Numbered) → All (IsOpenSlot pages) comps → (i : ℕ) → IsInExtents (map (λ e. e.1) comps) i → FIRST_DATA_PAGE * PAGE_BYTES ≤ i
 extents-behind pages [] all i inside = absurd inside
@@ -111,10 +113,10 @@ extents-behind pages (e ∷ comps) all i (inl here) = let first : IsOpenSlot pag
 extents-behind pages (e ∷ comps) all i (inr others) = extents-behind pages comps (λ k d lt. all (suc k) d (omega (arith, lt))) i others
 
 -- the pages of the components stand behind the superblock, the slots and the log, so calls that write there leave the store legible
-pub legible-before : (table : Table) (l : Lists) (s t : Story) (at count : ℕ) (now : Option Story) → IsLists l → IsLegible table l s → WritesWithin at count s now → now ≡ Some t
-    → at + count ≤ FIRST_DATA_PAGE * PAGE_BYTES → IsLegible table l t
-legible-before table l s t at count now is legible within told low =
-    legible-within table l s t at count now is legible within told
+pub legible-before : (table : Table) (disk : List (List PrimRow)) (l : Lists) (s t : Story) (at count : ℕ) (now : Option Story) → IsLists l → IsLegible table disk l s → WritesWithin at count s now → now ≡ Some t
+    → at + count ≤ FIRST_DATA_PAGE * PAGE_BYTES → IsLegible table disk l t
+legible-before table disk l s t at count now is legible within told low =
+    legible-within table disk l s t at count now is legible within told
     (λ i place. let behind : FIRST_DATA_PAGE * PAGE_BYTES ≤ i = extents-behind l.space.pages l.components (components-open l is) i (lent-inside l.components i place) in inr (omega (arith, low, behind)))
 
 sides : (n m : ℕ) → (n < m) ⊎ (m ≤ n)
@@ -134,34 +136,32 @@ other-page extents page i free place =
     both other same lent = let is : is_lent extents page ≡ true = subst (λ (n : ℕ). is_lent extents n ≡ true) same lent in cc
 
 -- and so do calls that write on a page that no component has
-pub legible-elsewhere : (table : Table) (l : Lists) (s t : Story) (page : ℕ) (now : Option Story) → IsLists l → IsLegible table l s → WritesWithin (page * PAGE_BYTES) PAGE_BYTES s now → now ≡ Some t
-    → is_lent (extents_of l.components) page ≡ false → IsLegible table l t
-legible-elsewhere table l s t page now is legible within told free =
-    legible-within table l s t (page * PAGE_BYTES) PAGE_BYTES now is legible within told (λ i place. other-page (extents_of l.components) page i free place)
+pub legible-elsewhere : (table : Table) (disk : List (List PrimRow)) (l : Lists) (s t : Story) (page : ℕ) (now : Option Story) → IsLists l → IsLegible table disk l s → WritesWithin (page * PAGE_BYTES) PAGE_BYTES s now → now ≡ Some t
+    → is_lent (extents_of l.components) page ≡ false → IsLegible table disk l t
+legible-elsewhere table disk l s t page now is legible within told free =
+    legible-within table disk l s t (page * PAGE_BYTES) PAGE_BYTES now is legible within told (λ i place. other-page (extents_of l.components) page i free place)
 
 -- a row that a write lays
-pub legible-added : (table : Table) (l : Lists) (s : Story) (write : Write) (had : Bool) → IsLegible table l s → IsLegible (after_write table write) (added (written_row write) had l) s
-legible-added table l s write had legible = record {
-  disk = legible.disk;
+pub legible-added : (table : Table) (disk : List (List PrimRow)) (l : Lists) (s : Story) (write : Write) (had : Bool) → IsLegible table disk l s → IsLegible (after_write table write) disk (added (written_row write) had l) s
+legible-added table disk l s write had legible = record {
   shown = legible.shown;
-  fits = Fits-write table l.active (option_to_list l.frozen ++ legible.disk) write legible.fits;
+  fits = Fits-write table l.active (option_to_list l.frozen ++ disk) write legible.fits;
 }
 
 -- a freeze of the active list
-pub legible-frozen : (table : Table) (l : Lists) (s : Story) (last : ℕ) → l.frozen ≡ None → IsLegible table l s → IsLegible table (frozen_at last l) s
-legible-frozen table l s last none legible = record {
-  disk = legible.disk;
+pub legible-frozen : (table : Table) (disk : List (List PrimRow)) (l : Lists) (s : Story) (last : ℕ) → l.frozen ≡ None → IsLegible table disk l s → IsLegible table disk (frozen_at last l) s
+legible-frozen table disk l s last none legible = record {
   shown = legible.shown;
-  fits = Fits-frozen prim_reading l.active legible.disk (wanted_rows table)
-      (subst (λ (frozen : Option (List PrimRow)). Fits prim_reading (lists_of l.active frozen legible.disk) (wanted_rows table)) none legible.fits);
+  fits = Fits-frozen prim_reading l.active disk (wanted_rows table)
+      (subst (λ (frozen : Option (List PrimRow)). Fits prim_reading (lists_of l.active frozen disk) (wanted_rows table)) none legible.fits);
 }
 
 -- a job that begins, and a page of it that is written
-pub legible-begun : (table : Table) (l : Lists) (s : Story) (row : JobRow) → IsLegible table l s → IsLegible table (begun row l) s
-legible-begun table l s row legible = record { disk = legible.disk; shown = legible.shown; fits = legible.fits }
+pub legible-begun : (table : Table) (disk : List (List PrimRow)) (l : Lists) (s : Story) (row : JobRow) → IsLegible table disk l s → IsLegible table disk (begun row l) s
+legible-begun table disk l s row legible = record { shown = legible.shown; fits = legible.fits }
 
-pub legible-one_written : (table : Table) (l : Lists) (s : Story) → IsLegible table l s → IsLegible table (one_written l) s
-legible-one_written table l s legible = record { disk = legible.disk; shown = legible.shown; fits = legible.fits }
+pub legible-one_written : (table : Table) (disk : List (List PrimRow)) (l : Lists) (s : Story) → IsLegible table disk l s → IsLegible table disk (one_written l) s
+legible-one_written table disk l s legible = record { shown = legible.shown; fits = legible.fits }
 
 -- the pages of two lists of extents are told together
 told-together : (e : Extent) (extents : List Extent) (s : Story) (one others : ℕ → List ℕ) → contents_of (e ∷ []) (Some s) ≡ Some one → contents_of extents (Some s) ≡ Some others
@@ -204,18 +204,17 @@ shown-with new comps rows disk s pages shown = by_rest comps shown
         in_front (e ∷ comps) told (subst (λ (contents : Option (ℕ → List ℕ)). AreShown contents (trees_of (e ∷ comps)) disk) (same ∙ sym told) shown)
 
 -- an install of the frozen list, whose pages show it
-pub legible-installed : (table : Table) (l : Lists) (s : Story) (row : JobRow) (rows : List PrimRow) → l.frozen ≡ Some rows
-    → IsShown prim_layout (contents_of (row.plan.extent ∷ []) (Some s)) row.plan.extent.first (length rows) rows → IsLegible table l s → IsLegible table (installed row l) s
-legible-installed table l s row rows waits pages legible =
+pub legible-installed : (table : Table) (disk : List (List PrimRow)) (l : Lists) (s : Story) (row : JobRow) (rows : List PrimRow) → l.frozen ≡ Some rows
+    → IsShown prim_layout (contents_of (row.plan.extent ∷ []) (Some s)) row.plan.extent.first (length rows) rows → IsLegible table disk l s → IsLegible table (rows ∷ disk) (installed row l) s
+legible-installed table disk l s row rows waits pages legible =
     let count : length rows ≡ length (frozen_rows l.frozen) = ap (λ (frozen : Option (List PrimRow)). length (frozen_rows frozen)) (sym waits) in
     record {
-      disk = rows ∷ legible.disk;
-      shown = shown-with (row.plan.slot, described (job_of l row)) l.components rows legible.disk s
+      shown = shown-with (row.plan.slot, described (job_of l row)) l.components rows disk s
           (subst (λ (n : ℕ). IsShown prim_layout (contents_of (row.plan.extent ∷ []) (Some s)) row.plan.extent.first n rows) count pages) legible.shown;
-      fits = placed (subst (λ (frozen : Option (List PrimRow)). Fits prim_reading (lists_of l.active frozen legible.disk) (wanted_rows table)) waits legible.fits);
+      fits = placed (subst (λ (frozen : Option (List PrimRow)). Fits prim_reading (lists_of l.active frozen disk) (wanted_rows table)) waits legible.fits);
     }
   where
-    placed : Fits prim_reading (lists_of l.active (Some rows) legible.disk) (wanted_rows table) → Fits prim_reading (lists_of l.active None (rows ∷ legible.disk)) (wanted_rows table)
+    placed : Fits prim_reading (lists_of l.active (Some rows) disk) (wanted_rows table) → Fits prim_reading (lists_of l.active None (rows ∷ disk)) (wanted_rows table)
     placed fits = fits
 
 -- what pages of the components hold is told behind reads as before them
@@ -228,12 +227,11 @@ contents-read Within extents s (Sync ∷ calls) reads = absurd reads
 contents-read Within extents s (FailedWrite at new ∷ calls) reads = absurd reads
 
 -- and so a store that is legible behind reads was so before them
-pub legible-before_reads : (Within : ℕ → ℕ → Type 0) (table : Table) (l : Lists) (s t : Story) (now : Option Story) → ReadsWithin Within s now → now ≡ Some t → IsLegible table l t → IsLegible table l s
-legible-before_reads Within table l s t now run told legible =
+pub legible-before_reads : (Within : ℕ → ℕ → Type 0) (table : Table) (disk : List (List PrimRow)) (l : Lists) (s t : Story) (now : Option Story) → ReadsWithin Within s now → now ≡ Some t → IsLegible table disk l t → IsLegible table disk l s
+legible-before_reads Within table disk l s t now run told legible =
     let there : after s run.calls ≡ t = same_Some _ _ (sym run.told ∙ told) in
     record {
-      disk = legible.disk;
-      shown = subst (λ (contents : Option (ℕ → List ℕ)). AreShown contents (trees_of l.components) legible.disk)
+      shown = subst (λ (contents : Option (ℕ → List ℕ)). AreShown contents (trees_of l.components) disk)
           (ap (λ (u : Story). contents_of (extents_of l.components) (Some u)) (sym there) ∙ contents-read Within (extents_of l.components) s run.calls run.reads) legible.shown;
       fits = legible.fits;
     }
@@ -250,8 +248,8 @@ module _ (Within : ℕ → ℕ → Type 0) (s : Story) (now : Option Story) (run
     bytes_same : bytes_of t ≡ bytes_of s
     bytes_same = ap bytes_of (sym there) ∙ bytes_of-reads Within s run.calls run.reads
 
-    pub legible-reads : (table : Table) (l : Lists) → IsLists l → IsLegible table l s → IsLegible table l t
-    legible-reads table l is legible = legible-within table l s t 0 0 now is legible nowhere told (λ i place. inr (omega arith))
+    pub legible-reads : (table : Table) (disk : List (List PrimRow)) (l : Lists) → IsLists l → IsLegible table disk l s → IsLegible table disk l t
+    legible-reads table disk l is legible = legible-within table disk l s t 0 0 now is legible nowhere told (λ i place. inr (omega arith))
 
     rests-reads : (pages : ℕ) (log : Log) (table : Table) → Rests pages log table s → Rests pages log table t
     rests-reads pages log table rest = elsewhere-rests pages log table s t 0 0 now rest nowhere told (λ i is. inr (omega arith)) (inl (omega arith))

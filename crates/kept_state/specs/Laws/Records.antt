@@ -2,7 +2,8 @@
 use Rattle.std.proofs.Common.{◌≡◌, ◌⊎◌, inl, inr, ℕ, ◌+◌, ◌<◌, ◌≤◌, List, [], ◌∷◌, ◌++◌, length, length-append, map, None, Bool, false, drop, if◌then◌else◌, nat_lt, sym, ◌∙◌, ap, arith}
 use Rattle.std.proofs.lemmas.Bool.Decides.{nat_tests}
 use Rattle.std.proofs.Math.Seq.{drop-append_seam}
-use Rattle.wal_log.specs.Later.{later, up_to}
+use Rattle.wal_log.specs.Later.{later}
+use Rattle.wal_log.specs.UpTo.{up_to}
 use Rattle.wal_log.specs.Laws.Later.{AreNumbered, length-bodies, numbered, numbered-end, later-split, later-whole}
 use Rattle.wal_log.specs.Records.{record_of}
 use Rattle.wal_log.specs.Rules.{Numbered, first_lsn_of, AreSound, in_order, records_in, records_of}

@@ -6,7 +6,8 @@ use Rattle.std.proofs.lemmas.List.Elements.{All-nil, All-cons, All-head, All-tai
 use Rattle.std.specs.Ordering.{ordering_reverse}
 use Rattle.std.specs.declared.cmp.Ordering.{Ordering}
 use Rattle.std.specs.declared.cmp.Ordering.TheVariants.{Less, Equal, Greater}
-use Rattle.order_merge.specs.Entries.{Reading, IsKeyOrder, Ascends}
+use Rattle.order_merge.specs.Entries.{Reading}
+use Rattle.order_merge.specs.Ascending.{IsKeyOrder, Ascends}
 use Rattle.order_merge.specs.Adding.{with_entry, by_ordering}
 
 module _ {E K : Type 0} (r : Reading E K) (o : IsKeyOrder r.order) where

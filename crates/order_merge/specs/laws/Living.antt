@@ -6,8 +6,11 @@ use Rattle.std.specs.Ordering.{eq_by_cmp, is_eq}
 use Rattle.std.specs.Cmp.{alike_right}
 use Rattle.std.specs.declared.cmp.Ordering.{Ordering}
 use Rattle.std.specs.declared.cmp.Ordering.TheVariants.{Less, Equal, Greater}
-use Rattle.order_merge.specs.Entries.{Reading, IsKeyOrder, entry_at, newest_at, unless_anti, Fits, IsMergeOf}
-use Rattle.order_merge.specs.Adding.{with_entry, by_ordering, wanted_with}
+use Rattle.order_merge.specs.Entries.{Reading, entry_at, newest_at, unless_anti, Fits}
+use Rattle.order_merge.specs.Ascending.{IsKeyOrder}
+use Rattle.order_merge.specs.Merged.{IsMergeOf}
+use Rattle.order_merge.specs.Adding.{with_entry, by_ordering}
+use Rattle.order_merge.specs.Added.{wanted_with}
 
 pub option_or-assoc : {X : Type 0} (a b c : Option X) → option_or (option_or a b) c ≡ option_or a (option_or b c)
 option_or-assoc None b c = refl

@@ -5,8 +5,10 @@ use Rattle.std.specs.Ordering.{eq_by_cmp, is_eq}
 use Rattle.std.specs.Cmp.{tied_itself}
 use Rattle.std.proofs.lemmas.Bool.Decides.{Decides-eqb}
 use Rattle.std.specs.declared.cmp.Ordering.TheVariants.{Equal}
-use Rattle.order_merge.specs.Entries.{IsKeyOrder, Fits}
-use Rattle.order_merge.specs.Adding.{with_entry, with_entries, wanted_with}
+use Rattle.order_merge.specs.Entries.{Fits}
+use Rattle.order_merge.specs.Ascending.{IsKeyOrder}
+use Rattle.order_merge.specs.Adding.{with_entry}
+use Rattle.order_merge.specs.Added.{with_entries, wanted_with}
 use Rattle.order_merge.specs.Places.{PlaceReading, IsPlaceReading, matter_at, wanted_places, moved, place_changes}
 use Rattle.order_merge.specs.laws.Living.{Fits-with_entry, is_eq-Equal}
 

@@ -2,7 +2,7 @@
 use Rattle.std.proofs.Common.{◌≡◌, ℕ, List, [], ◌∷◌, Some, refl, ap, if◌then◌else◌}
 use Rattle.std.specs.Ordering.{eq_by_cmp, nat_cmp}
 use Rattle.order_merge.specs.Entries.{entry_at}
-use Rattle.btree_image.specs.Rows.{row_with_key}
+use Rattle.btree_image.specs.Given.{row_with_key}
 use Rattle.primary_ix.specs.declared.rows.PrimRow.{PrimRow}
 use Rattle.primary_ix.specs.Rows.{prim_layout, prim_reading}
 

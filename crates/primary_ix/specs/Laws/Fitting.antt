@@ -6,7 +6,8 @@ use Rattle.std.specs.Cmp.{nat_cmp_total, eq_by_cmp_equiv}
 use Rattle.std.specs.FinMap.{empty, get, get-empty, get-insert, get-remove, insert, remove, nat_cmp-IsAntisymmetric}
 use Rattle.geo_base.specs.declared.points.Row.{Row}
 use Rattle.order_merge.specs.Entries.{Fits, entry_at, newest_at, unless_anti}
-use Rattle.order_merge.specs.Adding.{with_entry, wanted_with}
+use Rattle.order_merge.specs.Adding.{with_entry}
+use Rattle.order_merge.specs.Added.{wanted_with}
 use Rattle.order_merge.specs.laws.Living.{Fits-with_entry, is_eq-Equal}
 use Rattle.table_model.specs.Table.{Table, row_at, place_of}
 use Rattle.table_model.specs.Commands.{Write, put, del}

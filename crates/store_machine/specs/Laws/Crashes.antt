@@ -9,8 +9,8 @@ use Rattle.dev_model.specs.Laws.Runs.{EachMoment-join, before_or_since}
 use Rattle.dev_model.specs.Laws.Images.{IsImage-now}
 use Rattle.table_model.specs.Table.{Table}
 use Rattle.component_image.specs.Recovered.{Recovers}
-use Rattle.component_image.specs.Resting.{RecoversEither}
-use Rattle.store_machine.specs.Machine.{Group, after_groups}
+use Rattle.component_image.specs.Standing.{RecoversEither}
+use Rattle.store_machine.specs.Outcomes.{Group, after_groups}
 use Rattle.store_machine.specs.Crash.{acked_by, Keeps, RecoversFirst}
 use Rattle.store_machine.specs.Standing.{AreUpTo}
 use Rattle.store_machine.specs.Laws.Counting.{acked_by-le, acked_by-all, acked_by-later, AreUpTo-push}

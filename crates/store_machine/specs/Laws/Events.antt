@@ -11,9 +11,10 @@ use Rattle.dev_model.specs.Laws.Plans.{all_noted-told}
 use Rattle.dev_model.specs.declared.calls.DeviceCall.{DeviceCall}
 use Rattle.page_codec.specs.declared.faults.PageFault.{PageFault}
 use Rattle.table_model.specs.Table.{Table}
+use Rattle.primary_ix.specs.declared.rows.PrimRow.{PrimRow}
 use Rattle.table_model.specs.Answers.{after_write}
 use Rattle.wal_log.specs.Records.{record_bytes, key_of}
-use Rattle.wal_log.specs.State.{append_calls}
+use Rattle.wal_log.specs.Changes.{append_calls}
 use Rattle.wal_log.specs.declared.places.TheConstants.{MOST_RECORDS}
 use Rattle.wal_log.specs.declared.log.Log.{Log}
 use Rattle.wal_log.specs.declared.records.Record.{Record}
@@ -23,7 +24,9 @@ use Rattle.store_machine.specs.Laws.LogCalls.{append-calls, failed_calls, plan-l
 use Rattle.store_machine.specs.Laws.Logging.{between, machine_between, between-has, between-tells, Logs, LogsAll, wrote_state, wrote_machine, wrote-tells, wrote-has, LogFails, failed_machine, failed_state, failed-has, failed-tells}
 use Rattle.store_machine.specs.Machine.{is_logged, Machine, Opening, does, group_of, after_event, after_logged, after_answer}
 use Rattle.store_machine.specs.Needs.{place_in, Needs}
-use Rattle.store_machine.specs.Standing.{DeviceState, StoreState, Has, Tells, Makes}
+use Rattle.store_machine.specs.Calls.{Makes}
+use Rattle.store_machine.specs.Standing.{StoreState, Has, Tells}
+use Rattle.store_machine.specs.Devices.{DeviceState}
 use Rattle.store_machine.specs.declared.events.Wrote.{Wrote}
 use Rattle.store_machine.specs.declared.events.Refusal.TheVariants.{Fault}
 use Rattle.store_state.specs.Lists.{Lists}
@@ -83,6 +86,7 @@ reads-named old now way result pages seq owner action change reads owes done sam
       running = λ no. absurd (let e : true ≡ false = sym no in cc);
       group = λ no. absurd (let e : true ≡ false = sym no in cc);
       table = change;
+      disk = λ d. d;
       done = done;
     })
     (λ known o m has tells. allowed old (record old { device = now; seq = seq }) owner action (read_calls old result pages) false owes known o m has tells
@@ -105,7 +109,7 @@ pub still-event : (old : StoreState) (lists : Lists) (seq owner : ℕ) (action :
     → ((m : Machine) → Has old m → does action m ≡ record m { seq = seq; log = old.log; lists = lists; table = m.table })
     → is_fault action ≡ false
     → ((m : Machine) → MakesCalls m action false [])
-    → ((o : Opening) (m : Machine) → Has old m → (t : Tells o old m) → GoesOn o old (record old { lists = lists; seq = seq }) m t [])
+    → ((o : Opening) (m : Machine) → Has old m → (t : Tells o old m) → GoesOn o old (record old { lists = lists; seq = seq }) m t m.disk [])
     → Makes old (record old { lists = lists; seq = seq }) owner action
 still-event old lists seq owner action owes done well none goes =
     passes old (record old { lists = lists; seq = seq }) owner action [] false
@@ -119,6 +123,7 @@ still-event old lists seq owner action owes done well none goes =
       running = λ no. absurd (let e : true ≡ false = sym no in cc);
       group = λ no. absurd (let e : true ≡ false = sym no in cc);
       table = λ t. t;
+      disk = λ d. d;
       done = done;
     })
     (λ known o m has tells. allowed old (record old { lists = lists; seq = seq }) owner action [] false owes known o m has tells (λ _. none m)
@@ -127,17 +132,17 @@ still-event old lists seq owner action owes done well none goes =
     (λ o m has t. refl)
 
 -- the lists stay
-pub stays-go_on : (old : StoreState) (seq : ℕ) (o : Opening) (m : Machine) → Has old m → (t : Tells o old m) → GoesOn o old (record old { lists = old.lists; seq = seq }) m t []
-stays-go_on old seq o m has t = stays-there o old (record old { lists = old.lists; seq = seq }) m has t refl refl refl refl (λ table s kept. kept) (λ table s legible. legible)
+pub stays-go_on : (old : StoreState) (seq : ℕ) (o : Opening) (m : Machine) → Has old m → (t : Tells o old m) → GoesOn o old (record old { lists = old.lists; seq = seq }) m t m.disk []
+stays-go_on old seq o m has t = stays-there o old (record old { lists = old.lists; seq = seq }) m has t refl refl refl refl (λ table s kept. kept) (λ table disk s legible. legible)
 
 -- a step that was answered
-pub works-event : (old : StoreState) (now : DeviceState) (log : Log) (lists : Lists) (plan : Calls) (owner : ℕ) (action : Action) → now.pages ≡ old.device.pages
-    → Works old (record old { device = now; log = log; lists = lists }) plan → Owes old now owner action false
-    → ((m : Machine) → Has old m → does action m ≡ record m { seq = old.seq; log = log; lists = lists; table = m.table })
+pub works-event : (old : StoreState) (now : DeviceState) (log : Log) (lists : Lists) (disk_after : List (List PrimRow) → List (List PrimRow)) (plan : Calls) (owner : ℕ) (action : Action) → now.pages ≡ old.device.pages
+    → Works old (record old { device = now; log = log; lists = lists }) disk_after plan → Owes old now owner action false
+    → ((m : Machine) → Has old m → does action m ≡ record m { seq = old.seq; log = log; lists = lists; disk = disk_after m.disk })
     → is_fault action ≡ false
     → ((m : Machine) → Has old m → MakesCalls m action false (ok_calls old.device.clock plan))
     → Makes old (record old { device = now; log = log; lists = lists }) owner action
-works-event old now log lists plan owner action pages works owes done well are =
+works-event old now log lists disk_after plan owner action pages works owes done well are =
     passes old (record old { device = now; log = log; lists = lists }) owner action (ok_calls old.device.clock plan) false
     (record {
       opened_at = refl;
@@ -149,11 +154,12 @@ works-event old now log lists plan owner action pages works owes done well are =
       running = λ no. absurd (let e : true ≡ false = sym no in cc);
       group = λ no. absurd (let e : true ≡ false = sym no in cc);
       table = λ t. t;
+      disk = disk_after;
       done = done;
     })
     (λ known o m has tells. allowed old (record old { device = now; log = log; lists = lists }) owner action (ok_calls old.device.clock plan) false owes known o m has tells (λ _. are m has)
-    (λ is_known. subst (λ (fault : Bool). TakesTime fault m.clock (ok_calls old.device.clock plan) now.clock) (sym well) (works-time o old (record old { device = now; log = log; lists = lists }) plan m works has (tells is_known))))
-    (λ o m has t. works-go_on o old (record old { device = now; log = log; lists = lists }) plan m works has t)
+    (λ is_known. subst (λ (fault : Bool). TakesTime fault m.clock (ok_calls old.device.clock plan) now.clock) (sym well) (works-time o old (record old { device = now; log = log; lists = lists }) disk_after plan m works has (tells is_known))))
+    (λ o m has t. works-go_on o old (record old { device = now; log = log; lists = lists }) disk_after plan m works has t)
     (λ o m has t. refl)
 
 -- a step that failed
@@ -175,6 +181,7 @@ fails-event old now plan owner action pages fails owes none fault same are =
       running = λ _. fails.going;
       group = λ _. none;
       table = λ t. t;
+      disk = λ d. d;
       done = λ m has. same m ∙ (λ i. record m { seq = sym has.seq i; log = sym has.log i; lists = sym has.lists i; table = m.table });
     })
     (λ known o m has tells. allowed old (stopped_state old now) owner action (stopped_calls old now plan fails) true owes known o m has tells
@@ -191,7 +198,7 @@ pub record IsLogged (old : StoreState) (op : LogOp) (r : Record) (wrote : Wrote)
   pub logs : is_logged op wrote ≡ true
   pub seq : wrote.seq ≡ old.seq
   pub ops : wrote.ops ≡ old.log.records + 1
-  pub old_is : (table : Table) → WhereTold old.device.story (λ s. IsLegible table old.lists s → option_map place_in wrote.old ≡ finite.get table (key_of op))
+  pub old_is : (table : Table) (disk : List (List PrimRow)) → WhereTold old.device.story (λ s. IsLegible table disk old.lists s → option_map place_in wrote.old ≡ finite.get table (key_of op))
 
 -- the calls of its log are those at the machine's place of the log, right behind the reads
 log-made : (old : StoreState) (m : Machine) (read : List DeviceCall) (r : Record) (clock : ℕ) → Has old m → clock ≡ m.clock + length read → length (record_bytes r) ≡ 95
@@ -234,7 +241,7 @@ wrote-event old mid now row pages owner op r wrote log lists reads all is time r
           ready = record { going = sym has.stopped ∙ all.logs.going; numbers = subst (λ (l : Log). l.next_lsn < 2 ^ 62) has.log is.numbers; room = subst (λ (l : Log). l.records < MOST_RECORDS) has.log is.room };
           seq = is.seq ∙ has.seq;
           ops = is.ops ∙ ap (λ (l : Log). l.records + 1) has.log ∙ ap (λ (logged : Bool). if logged then m.log.records + 1 else m.log.records) (sym is.logs);
-          old = λ is_known. let t : Tells o old m = tells is_known in is.old_is m.table t.now t.told t.legible;
+          old = λ is_known. let t : Tells o old m = tells is_known in is.old_is m.table m.disk t.now t.told t.legible;
         };
         owned = tt;
         calls = λ is_known. subst (λ (logged : Bool). MakesWrite logged m (key_of op) (read ++ made)) (sym is.logs)

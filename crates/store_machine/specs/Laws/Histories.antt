@@ -10,7 +10,7 @@ use Rattle.geo_base.specs.declared.points.IndexKind.{IndexKind}
 use Rattle.geo_base.specs.declared.points.Point.{Point}
 use Rattle.table_model.specs.Table.{Table, Place, place_of, row_at}
 use Rattle.table_model.specs.Commands.{Write, put, del, TableCommand, write, get, count, region, Command, on_table, flush, wrote, got, counted, rows, Outcome, answered, quiet, refused}
-use Rattle.table_model.specs.Answers.{put_reply, del_reply, table_after, reply_to, replies}
+use Rattle.table_model.specs.Answers.{put_reply, del_reply, table_after, reply_to, replay, replies}
 use Rattle.table_model.specs.Refusals.{MayRefuse}
 use Rattle.table_model.specs.Record.{HistoryAnswer, lane_answers, seqs, Rises, IsFor, IsQuiet, OneEach}
 use Rattle.table_model.specs.declared.Why.{Why}
@@ -18,10 +18,11 @@ use Rattle.table_model.specs.declared.Why.TheVariants as why
 use Rattle.wal_log.specs.declared.records.LogOp.{LogOp}
 use Rattle.wal_log.specs.declared.records.LogOp.TheVariants.{Put, Del}
 use Rattle.image_model.specs.Recovered.{write_of}
-use Rattle.store_machine.specs.Machine.{Group, Machine, does, after_logged, after_event, after_all, group_of}
+use Rattle.store_machine.specs.Outcomes.{Group, logged_by, logged_groups}
+use Rattle.store_machine.specs.Machine.{Machine, does, after_logged, after_event, after_all, group_of}
 use Rattle.store_machine.specs.Needs.{Needs, NeedsWrite, RefusesStep, place_in}
 use Rattle.store_machine.specs.Runs.{IsRun}
-use Rattle.store_machine.specs.Commands.{is_upkeep, own, word_of, refusal_of, IsRefusedWith, wrote_reply, write_outcome, get_outcome, region_outcome, IsCall, Does, DoesAll, logged_by, logged_groups, stopped_group}
+use Rattle.store_machine.specs.Commands.{is_upkeep, own, word_of, refusal_of, words_of, words, IsRefusedWith, wrote_reply, write_outcome, get_outcome, region_outcome, IsCall, Does, DoesAll, stopped_group}
 use Rattle.store_machine.specs.Laws.Steps.{after_all-append}
 use Rattle.store_machine.specs.declared.events.Wrote.{Wrote}
 use Rattle.store_machine.specs.declared.events.Refusal.{Refusal}
@@ -60,12 +61,12 @@ upkeep-leaves m (action.Freeze least (Ok true)) is = record { table = refl; seq 
 upkeep-leaves m (action.Freeze least (Ok false)) is = record { table = refl; seq = refl; logged = refl }
 upkeep-leaves m (action.Freeze least (Err refusal)) is = record { table = refl; seq = refl; logged = refl }
 upkeep-leaves m (action.Begin (Ok None)) is = record { table = refl; seq = refl; logged = refl }
-upkeep-leaves m (action.Begin (Ok (Some row))) is = record { table = refl; seq = refl; logged = refl }
+upkeep-leaves m (action.Begin (Ok (Some own))) is = record { table = refl; seq = refl; logged = refl }
 upkeep-leaves m (action.Begin (Err refusal)) is = record { table = refl; seq = refl; logged = refl }
-upkeep-leaves m (action.JobWrite row (Ok done)) is = record { table = refl; seq = refl; logged = refl }
-upkeep-leaves m (action.JobWrite row (Err refusal)) is = record { table = refl; seq = refl; logged = refl }
-upkeep-leaves m (action.Install row (Ok done)) is = record { table = refl; seq = refl; logged = refl }
-upkeep-leaves m (action.Install row (Err refusal)) is = record { table = refl; seq = refl; logged = refl }
+upkeep-leaves m (action.JobWrite own (Ok done)) is = record { table = refl; seq = refl; logged = refl }
+upkeep-leaves m (action.JobWrite own (Err refusal)) is = record { table = refl; seq = refl; logged = refl }
+upkeep-leaves m (action.Install own (Ok done)) is = record { table = refl; seq = refl; logged = refl }
+upkeep-leaves m (action.Install own (Err refusal)) is = record { table = refl; seq = refl; logged = refl }
 
 -- the own events of a list with one in front
 own-upkeep : (e : Event) (es : List Event) → is_upkeep e.action ≡ true → own (e ∷ es) ≡ own es
@@ -81,6 +82,10 @@ own-append (e ∷ es) fs = by_kind (is_upkeep e.action) refl (own-append es fs)
     by_kind : (b : Bool) → is_upkeep e.action ≡ b → own (es ++ fs) ≡ own es ++ own fs → own (e ∷ (es ++ fs)) ≡ own (e ∷ es) ++ own fs
     by_kind true is rest = own-upkeep e (es ++ fs) is ∙ rest ∙ ap (λ (l : List Event). l ++ own fs) (sym (own-upkeep e es is))
     by_kind false is rest = own-one e (es ++ fs) is ∙ ap (λ (l : List Event). e ∷ l) rest ∙ ap (λ (l : List Event). l ++ own fs) (sym (own-one e es is))
+
+pub words-append : (es fs : List Event) → words (es ++ fs) ≡ words es ++ words fs
+words-append [] fs = refl
+words-append (e ∷ es) fs = ap (λ (l : List Why). words_of (refusal_of e.action) ++ l) (words-append es fs) ∙ sym (append_assoc (words_of (refusal_of e.action)) (words es) (words fs))
 
 -- events that are all upkeep leave them
 pub all-leave : (m : Machine) (es : List Event) → own es ≡ [] → IsSame m (after_all m es)
@@ -264,10 +269,10 @@ refused_upkeep known m (action.Freeze least (Ok done)) refusal word needs upkeep
 refused_upkeep known m (action.Freeze least (Err given)) refusal word needs upkeep is named = refused_freeze known m least given word needs (ap word_of (same_Some _ _ is) ∙ named)
 refused_upkeep known m (action.Begin (Ok begun)) refusal word needs upkeep is named = unrefused flush word refusal is
 refused_upkeep known m (action.Begin (Err given)) refusal word needs upkeep is named = refused_begin known m given word needs (ap word_of (same_Some _ _ is) ∙ named)
-refused_upkeep known m (action.JobWrite row (Ok done)) refusal word needs upkeep is named = unrefused flush word refusal is
-refused_upkeep known m (action.JobWrite row (Err given)) refusal word needs upkeep is named = refused_step m given word needs.1 (ap word_of (same_Some _ _ is) ∙ named)
-refused_upkeep known m (action.Install row (Ok done)) refusal word needs upkeep is named = unrefused flush word refusal is
-refused_upkeep known m (action.Install row (Err given)) refusal word needs upkeep is named = refused_step m given word needs.1 (ap word_of (same_Some _ _ is) ∙ named)
+refused_upkeep known m (action.JobWrite own (Ok done)) refusal word needs upkeep is named = unrefused flush word refusal is
+refused_upkeep known m (action.JobWrite own (Err given)) refusal word needs upkeep is named = refused_step m given word needs.1 (ap word_of (same_Some _ _ is) ∙ named)
+refused_upkeep known m (action.Install own (Ok done)) refusal word needs upkeep is named = unrefused flush word refusal is
+refused_upkeep known m (action.Install own (Err given)) refusal word needs upkeep is named = refused_step m given word needs.1 (ap word_of (same_Some _ _ is) ∙ named)
 
 -- what a flush may be refused for, a write may
 write_may : (w : Write) (word : Why) → MayRefuse flush word → MayRefuse (on_table (write w)) word
@@ -323,8 +328,8 @@ by_event known m (action.Region kind rect (Err refusal)) c o needs (named, (answ
     (refused_one known m (region kind rect) o said.0 (outcome ∙ ap region_outcome said.2) (refused_region known m kind rect refusal said.0 needs said.1))
 by_event known m (action.Freeze least answer) c o needs call = absurd call
 by_event known m (action.Begin answer) c o needs call = absurd call
-by_event known m (action.JobWrite row answer) c o needs call = absurd call
-by_event known m (action.Install row answer) c o needs call = absurd call
+by_event known m (action.JobWrite own answer) c o needs call = absurd call
+by_event known m (action.Install own answer) c o needs call = absurd call
 
 -- over machines that are the same in what it says
 was-beside : (known : Bool) (a b c d : Machine) (command : Command) (o : Outcome) → IsSame a b → WasDone known b c command o → IsSame c d → WasDone known a d command o
@@ -375,13 +380,15 @@ abbrev IsFrom : ℕ → List ℕ → Type 0
 IsFrom n [] = Unit {0}
 IsFrom n (m ∷ ms) = n ≤ m
 
--- What a run of events is for the commands: one outcome each, numbers that rise, the table's replies, and what was logged.
+-- What a run of events is for the commands: one outcome each, numbers that rise, the table's replies, what was logged, and the table
+-- after them.
 pub record IsHistory (known : Bool) (m : Machine) (cs : List Command) (os : List Outcome) (n : Machine) : Type 0 where
   pub one_each : OneEach cs os
   from : IsFrom m.seq (seqs os)
   pub rises : Rises (seqs os)
   pub replied : known ≡ true → (lane : ℕ) → map (λ a. a.reply) (lane_answers lane cs os) ≡ replies m.table (map (λ a. a.command) (lane_answers lane cs os))
   pub logged : n.logged ≡ m.logged ++ logged_groups cs os
+  pub table : (lane : ℕ) → n.table ≡ replay m.table (map (λ a. a.command) (lane_answers lane cs os))
 
 next_is : (n : ℕ) → n < 2 ^ 64 - 1 → next_count n ≡ n + 1
 next_is n lt = grind (arith, nat_tests)
@@ -401,6 +408,9 @@ passed_by known m n end c cs o os for numbers lanes seq table logs rest = record
       subst (λ (answers : List HistoryAnswer). map (λ a. a.reply) answers ≡ replies m.table (map (λ a. a.command) answers)) (sym (lanes lane))
       (subst (λ (t : Table). map (λ a. a.reply) (lane_answers lane cs os) ≡ replies t (map (λ a. a.command) (lane_answers lane cs os))) table (rest.replied is lane));
   logged = rest.logged ∙ ap (λ (g : List Group). g ++ logged_groups cs os) logs ∙ append_assoc m.logged (logged_by c o) (logged_groups cs os);
+  table = λ lane.
+      rest.table lane ∙ ap (λ (t : Table). replay t (map (λ a. a.command) (lane_answers lane cs os))) table
+      ∙ ap (λ (answers : List HistoryAnswer). replay m.table (map (λ a. a.command) answers)) (sym (lanes lane));
 }
 
 -- one command in front
@@ -417,6 +427,7 @@ more known m n end (on_table c) cs (answered seq reply) os room is rest =
           subst (λ (t : Table). map (λ a. a.reply) (lane_answers lane cs os) ≡ replies t (map (λ a. a.command) (lane_answers lane cs os))) was.3 (rest.replied known_is lane) in
           λ j. was.2 known_is j ∷ later j;
       logged = rest.logged ∙ ap (λ (g : List Group). g ++ logged_groups cs os) is.logged ∙ append_assoc m.logged (logged_by (on_table c) (answered seq reply)) (logged_groups cs os);
+      table = λ lane. rest.table lane ∙ ap (λ (t : Table). replay t (map (λ a. a.command) (lane_answers lane cs os))) was.3;
     }
 more known m n end flush cs (answered seq reply) os room is rest = absurd is.was
 more known m n end (on_table c) cs quiet os room is rest = absurd is.was.0
@@ -435,7 +446,7 @@ seq_after known m n flush (refused word) was room = omega (arith, was.1)
 pub history-is : (known : Bool) (m : Machine) (cs : List Command) (os : List Outcome) (es : List Event) → m.seq + length os < 2 ^ 64 → IsRun known m es → DoesAll cs os es → IsHistory known m cs os (after_all m es)
 history-is known m [] [] es room run does_it =
     subst (λ (l : List Event). IsHistory known m [] [] (after_all m l)) (sym does_it)
-    (record { one_each = tt; from = tt; rises = tt; replied = λ is lane. refl; logged = sym (append-nil m.logged) })
+    (record { one_each = tt; from = tt; rises = tt; replied = λ is lane. refl; logged = sym (append-nil m.logged); table = λ lane. refl })
 history-is known m (c ∷ cs) (o ∷ os) es room run (its, rest, are, first, others) =
     let all : IsRun known m (its ++ rest) = subst (IsRun known m) are run in
     let n : Machine = after_all m its in
@@ -467,12 +478,12 @@ kept-open (action.Freeze least (Ok true)) m = refl
 kept-open (action.Freeze least (Ok false)) m = refl
 kept-open (action.Freeze least (Err refusal)) m = refl
 kept-open (action.Begin (Ok None)) m = refl
-kept-open (action.Begin (Ok (Some row))) m = refl
+kept-open (action.Begin (Ok (Some own))) m = refl
 kept-open (action.Begin (Err refusal)) m = refl
-kept-open (action.JobWrite row (Ok done)) m = refl
-kept-open (action.JobWrite row (Err refusal)) m = refl
-kept-open (action.Install row (Ok done)) m = refl
-kept-open (action.Install row (Err refusal)) m = refl
+kept-open (action.JobWrite own (Ok done)) m = refl
+kept-open (action.JobWrite own (Err refusal)) m = refl
+kept-open (action.Install own (Ok done)) m = refl
+kept-open (action.Install own (Err refusal)) m = refl
 
 pub unfinished-is : (m : Machine) (es : List Event) → (after_all m es).unfinished ≡ stopped_group m.unfinished es
 unfinished-is m [] = refl

@@ -2,13 +2,15 @@
 use Rattle.std.proofs.Common.{◌≡◌, inl, inr, ℕ, suc, ◌+◌, ◌≤◌, List, [], ◌∷◌, ◌++◌, length, Bool, true, false, get_or, Option, Some, None, refl, sym, ◌∙◌, ap, subst, arith}
 use Rattle.std.proofs.lemmas.List.{length-append}
 use Rattle.std.proofs.lemmas.Option.{same_Some}
-use Rattle.dev_model.specs.Story.{Call, Calls, FailedCall, FailedWrite, HasChangedNothing, HasFailed, HasStoppedIn, Read, Story, Sync, Write, after, clock_of, with_call}
+use Rattle.dev_model.specs.Story.{Call, Calls, FailedCall, FailedWrite, Read, Story, Sync, Write, after, clock_of, with_call}
+use Rattle.dev_model.specs.Doing.{HasChangedNothing, HasFailed, HasStoppedIn}
 use Rattle.dev_model.specs.DeviceCalls.{made_at, ok_calls}
 use Rattle.dev_model.specs.declared.calls.DeviceCall.{DeviceCall}
 use Rattle.dev_model.specs.declared.calls.DeviceAct.{DeviceAct}
 use Rattle.dev_model.specs.declared.calls.DeviceAct.TheVariants.{ReadAt, WriteAt, SyncAll}
 use Rattle.wal_log.specs.Records.{record_bytes}
-use Rattle.wal_log.specs.State.{append_calls, close_calls_if, following, start_calls, turn_calls}
+use Rattle.wal_log.specs.State.{close_calls_if, following, start_calls, turn_calls}
+use Rattle.wal_log.specs.Changes.{append_calls}
 use Rattle.wal_log.specs.declared.log.Log.{Log}
 use Rattle.wal_log.specs.declared.records.Record.{Record}
 use Rattle.store_machine.specs.Runs.{IsFront, gate_of, log_calls}

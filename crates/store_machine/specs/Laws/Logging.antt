@@ -4,7 +4,8 @@ use Rattle.std.proofs.Common.{◌≡◌, ℕ, ◌+◌, Bool, List, [], ◌∷◌
 use Rattle.std.proofs.lemmas.List.{length_push}
 use Rattle.std.proofs.lemmas.Option.{same_Some}
 use Rattle.dev_model.specs.Counts.{next_count}
-use Rattle.dev_model.specs.Story.{Story, Calls, HasStoppedIn, after, all_noted, clock_of, WhereTold}
+use Rattle.dev_model.specs.Story.{Story, Calls, after, clock_of, WhereTold}
+use Rattle.dev_model.specs.Doing.{HasStoppedIn, all_noted}
 use Rattle.dev_model.specs.Moments.{EachMoment, LeavesOnly}
 use Rattle.dev_model.specs.DeviceCalls.{ok_calls}
 use Rattle.dev_model.specs.Laws.CallLists.{clock_of-after}
@@ -12,26 +13,29 @@ use Rattle.dev_model.specs.Laws.Plans.{all_noted-told}
 use Rattle.dev_model.specs.declared.calls.DeviceCall.{DeviceCall}
 use Rattle.table_model.specs.Table.{Table}
 use Rattle.table_model.specs.Answers.{after_write}
-use Rattle.wal_log.specs.State.{append_calls}
+use Rattle.wal_log.specs.Changes.{append_calls}
 use Rattle.wal_log.specs.declared.log.Log.{Log}
 use Rattle.wal_log.specs.declared.records.Record.{Record}
 use Rattle.wal_log.specs.declared.records.LogOp.{LogOp}
 use Rattle.image_model.specs.Recovered.{write_of}
 use Rattle.primary_ix.specs.Wanted.{written_row}
+use Rattle.primary_ix.specs.declared.rows.PrimRow.{PrimRow}
 use Rattle.component_image.specs.Recovered.{Recovers}
-use Rattle.component_image.specs.Resting.{RecoversEither}
+use Rattle.component_image.specs.Standing.{RecoversEither}
 use Rattle.component_image.specs.Told.{SaysOld}
 use Rattle.component_image.specs.Laws.Keeping.{rest-image}
 use Rattle.store_machine.specs.Crash.{attempted, Keeps}
 use Rattle.store_machine.specs.Laws.Counting.{AreUpTo-later, AreUpTo-push, after_groups-push}
 use Rattle.store_machine.specs.Laws.LogCalls.{StoppedBy}
-use Rattle.store_machine.specs.Machine.{Group, after_groups, Machine, Opening, after_logged, after_answer, log_with_record}
-use Rattle.store_machine.specs.Standing.{DeviceState, AreUpTo, StoreState, Begins, Has, Tells}
+use Rattle.store_machine.specs.Outcomes.{Group, after_groups}
+use Rattle.store_machine.specs.Machine.{Machine, Opening, after_logged, after_answer, log_with_record}
+use Rattle.store_machine.specs.Standing.{AreUpTo, StoreState, Begins, Has, Tells}
+use Rattle.store_machine.specs.Devices.{DeviceState}
 use Rattle.store_state.specs.Lists.{Lists}
 use Rattle.store_state.specs.Steps.{added}
 use Rattle.kept_state.specs.Keeping.{IsKept}
 use Rattle.kept_state.specs.Reading.{IsLegible}
-use Rattle.kept_state.specs.Laws.ReadingStays.{kept-legible}
+use Rattle.kept_state.specs.Laws.ReadingStays.{legible-added}
 use Rattle.store_machine.specs.Laws.Crashes.{attempt, acknowledged}
 use Rattle.store_machine.specs.Laws.Steps.{GoesOn, goes_on}
 
@@ -56,7 +60,7 @@ between-has old mid reads m has = record {
   running = has.running;
 }
 
-pub between-tells : (o : Opening) (old : StoreState) (mid : DeviceState) (reads : List DeviceCall) (m : Machine) → mid.pages ≡ old.device.pages → Has old m → (t : Tells o old m) → GoesOn o old (between old mid) m t reads
+pub between-tells : (o : Opening) (old : StoreState) (mid : DeviceState) (reads : List DeviceCall) (m : Machine) → mid.pages ≡ old.device.pages → Has old m → (t : Tells o old m) → GoesOn o old (between old mid) m t m.disk reads
     → Tells o (between old mid) (machine_between m mid reads)
 between-tells o old mid reads m pages has t goes =
     let calls : _ = goes_on o old m t goes.calls reads goes.made_is in
@@ -84,7 +88,9 @@ pub record Logs (mid : StoreState) (now : DeviceState) (op : LogOp) (r : Record)
   pub any_moment : (table : Table) → WhereTold mid.device.story (λ s. IsKept mid.device.pages mid.log table mid.lists s → SaysOld table r
       → LeavesOnly s now.story (RecoversEither mid.device.pages table (after_write table (write_of op))))
   -- the record says at which point the key stood in the table
-  pub says : (table : Table) → WhereTold mid.device.story (λ s. IsLegible table mid.lists s → SaysOld table r)
+  pub says : (table : Table) (disk : List (List PrimRow)) → WhereTold mid.device.story (λ s. IsLegible table disk mid.lists s → SaysOld table r)
+  -- by the lists of before the table of before is read, in any case
+  pub legible : (table : Table) (disk : List (List PrimRow)) → WhereTold mid.device.story (λ s. IsLegible table disk mid.lists s → WhereTold now.story (IsLegible table disk mid.lists))
   pub pages : now.pages ≡ mid.device.pages
   pub clock_told : (s : Story) → now.story ≡ Some s → now.clock ≡ clock_of s
 
@@ -117,7 +123,7 @@ during-either o mid mm t now op r u logs kept told =
     let pages : ℕ = mid.device.pages in
     let behind : after_groups o.table (mm.logged ++ (write_of op ∷ []) ∷ []) ≡ after_write mm.table (write_of op) =
     after_groups-push o.table mm.logged (write_of op ∷ []) ∙ ap (λ (x : Table). after_write x (write_of op)) (sym t.replayed) in
-    let leaves : LeavesOnly t.now now.story (RecoversEither pages mm.table (after_write mm.table (write_of op))) = logs.any_moment mm.table t.now t.told kept (logs.says mm.table t.now t.told t.legible) in
+    let leaves : LeavesOnly t.now now.story (RecoversEither pages mm.table (after_write mm.table (write_of op))) = logs.any_moment mm.table t.now t.told kept (logs.says mm.table mm.disk t.now t.told t.legible) in
     let each : EachMoment (clock_of t.now) u (λ _. RecoversEither pages mm.table (after_write mm.table (write_of op))) =
     subst (λ (v : Story). EachMoment (clock_of t.now) v (λ _. RecoversEither pages mm.table (after_write mm.table (write_of op)))) (same_Some _ _ (sym leaves.told ∙ told)) leaves.each in
     subst (λ (x : Table). EachMoment (clock_of t.now) u (λ _. RecoversEither pages x (after_groups o.table (mm.logged ++ (write_of op ∷ []) ∷ [])))) t.replayed
@@ -138,7 +144,7 @@ wrote-tells o mid now op r had log lists ack mm all has t =
     let new_table : Table = after_write mm.table (write_of op) in
     let group : Group = write_of op ∷ [] in
     let behind : after_groups o.table (mm.logged ++ group ∷ []) ≡ new_table = after_groups-push o.table mm.logged group ∙ ap (λ (x : Table). after_write x (write_of op)) (sym t.replayed) in
-    let next : IsKept pages log new_table lists u = all.kept mm.table t.now t.told kept (all.logs.says mm.table t.now t.told t.legible) u told in
+    let next : IsKept pages log new_table lists u = all.kept mm.table t.now t.told kept (all.logs.says mm.table mm.disk t.now t.told t.legible) u told in
     let none : mm.unfinished ≡ None = has.running running in
     let survives : EachMoment (clock_of t.opening) t.now (Keeps pages o.table mm.logged mm.acks) =
     subst (λ (g : Option Group). EachMoment (clock_of t.opening) t.now (Keeps pages o.table (attempted mm.logged g) mm.acks)) none t.survives in
@@ -160,7 +166,8 @@ wrote-tells o mid now op r had log lists ack mm all has t =
       made = calls.1;
       replayed = sym behind;
       kept = λ _. next;
-      legible = kept-legible pages log new_table lists u next;
+      legible = subst (λ (l : Lists). IsLegible new_table mm.disk l u) (sym all.lists_are)
+          (legible-added mm.table mm.disk mid.lists u (write_of op) had (all.logs.legible mm.table mm.disk t.now t.told t.legible u told));
       rows = next.rows_are;
       acked = AreUpTo-push (clock_of u) ack mm.acks acked (omega (arith, all.ack_is, clock));
       survives = subst (λ (x : Option Group). EachMoment (clock_of t.opening) u (Keeps pages o.table (attempted (mm.logged ++ group ∷ []) x) (mm.acks ++ ack ∷ []))) (sym none) done;
@@ -185,7 +192,6 @@ wrote-has mid now op r had log lists ack mm made all has = record {
 pub record LogFails (mid : StoreState) (now : DeviceState) (op : LogOp) (r : Record) : Type 0 where
   pub logs : Logs mid now op r
   pub did : HasStoppedIn (append_calls mid.log r) mid.device.story now.story
-  pub legible : (table : Table) → WhereTold mid.device.story (λ s. IsLegible table mid.lists s → WhereTold now.story (IsLegible table mid.lists))
 
 abbrev pub failed_machine : Machine → DeviceState → LogOp → (made : List DeviceCall) → Machine
 failed_machine mm now op made = record mm {
@@ -235,7 +241,7 @@ failed-tells o mid now op r mm made fails has t by =
       made = calls.1;
       replayed = t.replayed;
       kept = λ stopped. absurd (let none : ◌≡◌ {A = Option ℕ} (Some now.faults) None = stopped in cc);
-      legible = fails.legible mm.table t.now t.told t.legible u by.told;
+      legible = fails.logs.legible mm.table mm.disk t.now t.told t.legible u by.told;
       rows = t.rows;
       acked = AreUpTo-later (clock_of t.now) (clock_of u) mm.acks (omega (arith, clock_of-after t.now by.calls)) t.acked;
       survives = attempt pages o.table mm.logged mm.acks group has.counted (clock_of t.opening) t.now by.calls t.acked survives (during-either o mid mm t now op r u fails.logs (t.kept running) by.told);

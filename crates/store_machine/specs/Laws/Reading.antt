@@ -10,25 +10,26 @@ use Rattle.page_codec.specs.declared.pages.TheConstants.{PAGE_BYTES}
 use Rattle.page_codec.specs.declared.faults.PageFault.{PageFault}
 use Rattle.page_codec.specs.declared.faults.PageFault.TheVariants.{Failed, Damaged, OutOfMemory}
 use Rattle.table_model.specs.Table.{Table}
-use Rattle.order_merge.specs.Entries.{Fits}
-use Rattle.order_merge.specs.Views.{lists_of}
-use Rattle.tree_shape.specs.Asked.{GoesBy, given, given_but_last, reads_of}
-use Rattle.device_pages.specs.Asked.{Asked, Seen, calls_of, reads_made}
+use Rattle.tree_shape.specs.Asked.{GoesBy, given_but_last, reads_of}
+use Rattle.tree_shape.specs.Given.{given}
+use Rattle.device_pages.specs.Asked.{Asked, Seen, calls_of}
+use Rattle.device_pages.specs.ReadsMade.{reads_made}
 use Rattle.device_pages.specs.Claims.{MadeReads}
 use Rattle.device_pages.specs.Laws.Asked.{clock-given}
 use Rattle.device_pages.specs.Lending.{contents_of, is_lent}
 use Rattle.primary_ix.specs.Components.{AreRoots, AreShown}
-use Rattle.primary_ix.specs.Rows.{prim_reading}
-use Rattle.primary_ix.specs.Wanted.{wanted_rows}
 use Rattle.primary_ix.specs.declared.rows.PrimRow.{PrimRow}
 use Rattle.store_state.specs.Lists.{Lists, extents_of, trees_of}
 use Rattle.store_machine.specs.Crash.{attempted, Keeps, RecoversFirst}
 use Rattle.store_machine.specs.Laws.Counting.{acked_by-all}
-use Rattle.store_machine.specs.Machine.{Group, Machine, Opening}
-use Rattle.store_machine.specs.Standing.{DeviceState, AreUpTo, StoreState, Has, Tells}
-use Rattle.kept_state.specs.Reading.{HasRead, IsLegible, IsOnlyRead, IsPageIn}
+use Rattle.store_machine.specs.Outcomes.{Group}
+use Rattle.store_machine.specs.Machine.{Machine, Opening}
+use Rattle.store_machine.specs.Standing.{AreUpTo, StoreState, Has, Tells}
+use Rattle.store_machine.specs.Devices.{DeviceState}
+use Rattle.kept_state.specs.Reading.{IsLegible}
+use Rattle.kept_state.specs.OnlyRead.{HasRead, IsOnlyRead, IsPageIn}
 use Rattle.kept_state.specs.Laws.ReadingStays.{moments-reads}
-use Rattle.store_machine.specs.Runs.{Way, IsAllOf, IsFirstOf, StopsBefore, AreReads, TakesTime}
+use Rattle.store_machine.specs.Runs.{Way, IsAllOf, IsFirstOf, IsFrontUpTo, StopsBefore, AreReads, TakesTime}
 use Rattle.store_machine.specs.Laws.Steps.{GoesOn}
 
 -- what a reader sees of a device
@@ -120,14 +121,14 @@ reads-time old now way result pages m reads has =
 abbrev pub IsPartBy : {X : Type 0} → Result X PageFault → List ℕ → List ℕ → Type 0
 IsPartBy (Ok x) = IsAllOf
 IsPartBy (Err Failed) = StopsBefore
-IsPartBy (Err (Damaged page)) = IsFirstOf
+IsPartBy (Err (Damaged page)) = IsFrontUpTo page
 IsPartBy (Err OutOfMemory) = IsFirstOf
 
 -- where no read failed, they are the first ones
 pub first-of : {X : Type 0} (result : Result X PageFault) (pages all : List ℕ) → is_failed result ≡ false → IsPartBy result pages all → IsFirstOf pages all
 first-of (Ok x) pages all given is = ([], append-nil pages ∙ is)
 first-of (Err Failed) pages all given is = absurd (let no : true ≡ false = given in cc)
-first-of (Err (Damaged page)) pages all given is = is
+first-of (Err (Damaged page)) pages all given is = is.1
 first-of (Err OutOfMemory) pages all given is = is
 
 pub AreReads-weaker : (m : Machine) (way : Lists → Way) (P Q : List ℕ → List ℕ → Type 0) (calls : List DeviceCall) → ((pages all : List ℕ) → P pages all → Q pages all) → AreReads m way P calls → AreReads m way Q calls
@@ -135,9 +136,7 @@ AreReads-weaker m way P Q calls weaker reads = record {
   pages = reads.pages;
   lent = reads.lent;
   are = reads.are;
-  disk = reads.disk;
-  fits = reads.fits;
-  part = λ roots are. weaker reads.pages (way m.lists reads.disk roots) (reads.part roots are);
+  part = λ roots are. weaker reads.pages (way m.lists m.disk roots) (reads.part roots are);
 }
 
 -- the pages that were given of those that were asked for
@@ -150,7 +149,7 @@ pub record WereGiven {X : Type 0} (l : Lists) (way : Lists → Way) (clock : ℕ
 were-given : {X : Type 0} (l : Lists) (way : Lists → Way) (old new : Seen) (disk : List (List PrimRow)) (result : Result X PageFault) (pages : List ℕ) → HasRead l old new result pages
     → ((roots : List ℕ) → AreRoots (trees_of l.components) roots → GoesBy result pages (way l disk roots)) → WereGiven l way old.clock disk result pages
 were-given l way old new disk (Ok x) pages read goes = record { given_pages = pages; lent = read.went.are_lent; are = refl; part = goes }
-were-given l way old new disk (Err (Damaged page)) pages read goes = record { given_pages = pages; lent = read.went.are_lent; are = refl; part = goes }
+were-given l way old new disk (Err (Damaged page)) pages read goes = record { given_pages = pages; lent = read.went.are_lent; are = refl; part = λ roots are. (read.went.stops, goes roots are) }
 were-given l way old new disk (Err OutOfMemory) pages read goes = record { given_pages = pages; lent = read.went.are_lent; are = refl; part = goes }
 were-given l way old new disk (Err Failed) pages read goes =
     let page : ℕ = read.went.stops.0 in
@@ -167,23 +166,21 @@ were-given l way old new disk (Err Failed) pages read goes =
 pub reads-made : {X : Type 0} (o : Opening) (old : StoreState) (now : DeviceState) (way : Lists → Way) (result : Result X PageFault) (pages : List ℕ) (m : Machine) → HasOnlyRead old now way result pages → Has old m → Tells o old m
     → AreReads m way (IsPartBy result) (read_calls old result pages)
 reads-made o old now way result pages m reads has t =
-    let l : IsLegible m.table old.lists t.now = t.legible in
-    let shown : AreShown (contents_of (extents_of old.lists.components) old.device.story) (trees_of old.lists.components) l.disk =
-    subst (λ (story : Option Story). AreShown (contents_of (extents_of old.lists.components) story) (trees_of old.lists.components) l.disk) (sym t.told) l.shown in
-    let made : WereGiven old.lists way old.device.clock l.disk result pages =
-    were-given old.lists way (seen_of old.device) (seen_of now) l.disk result pages reads.read (λ roots are. reads.by l.disk roots shown are) in
+    let l : IsLegible m.table m.disk old.lists t.now = t.legible in
+    let shown : AreShown (contents_of (extents_of old.lists.components) old.device.story) (trees_of old.lists.components) m.disk =
+    subst (λ (story : Option Story). AreShown (contents_of (extents_of old.lists.components) story) (trees_of old.lists.components) m.disk) (sym t.told) l.shown in
+    let made : WereGiven old.lists way old.device.clock m.disk result pages =
+    were-given old.lists way (seen_of old.device) (seen_of now) m.disk result pages reads.read (λ roots are. reads.by m.disk roots shown are) in
     record {
       pages = made.given_pages;
       lent = subst (λ (x : Lists). All (λ page. IsTrue (is_lent (extents_of x.components) page)) made.given_pages) has.lists made.lent;
       are = made.are ∙ ap (λ (clock : ℕ). reads_made clock (given made.given_pages)) has.clock;
-      disk = l.disk;
-      fits = subst (λ (x : Lists). Fits prim_reading (lists_of x.active x.frozen l.disk) (wanted_rows m.table)) has.lists l.fits;
-      part = subst (λ (x : Lists). (roots : List ℕ) → AreRoots (trees_of x.components) roots → IsPartBy result made.given_pages (way x l.disk roots)) has.lists made.part;
+      part = subst (λ (x : Lists). (roots : List ℕ) → AreRoots (trees_of x.components) roots → IsPartBy result made.given_pages (way x m.disk roots)) has.lists made.part;
     }
 
 -- where the device told, it tells what reads leave; the store may draw the next number
 pub reads-go_on : {X : Type 0} (o : Opening) (old : StoreState) (now : DeviceState) (way : Lists → Way) (result : Result X PageFault) (pages : List ℕ) (seq : ℕ) (m : Machine)
-    → HasOnlyRead old now way result pages → Has old m → (t : Tells o old m) → GoesOn o old (record old { device = now; seq = seq }) m t (read_calls old result pages)
+    → HasOnlyRead old now way result pages → Has old m → (t : Tells o old m) → GoesOn o old (record old { device = now; seq = seq }) m t m.disk (read_calls old result pages)
 reads-go_on o old now way result pages seq m reads has t =
     let made : MadeReads (reads_of result pages) t.now now.story = reads.read.made t.now t.told in
     let stays : IsOnlyRead old.device.pages old.lists t.now now.story = reads.stays t.now t.told in
@@ -197,7 +194,7 @@ reads-go_on o old now way result pages seq m reads has t =
       made_is = made.made ∙ ap (λ (clock : ℕ). reads_made clock (reads_of result pages)) (sym t.clock);
       clock = reads.clock_told (after t.now made.calls) made.told;
       kept = λ going. stays.kept old.log m.table (t.kept (sym has.stopped ∙ going)) (after t.now made.calls) made.told;
-      legible = stays.legible m.table t.legible (after t.now made.calls) made.told;
+      legible = stays.legible m.table m.disk t.legible (after t.now made.calls) made.told;
       rows = t.rows;
       survives = moments-reads (IsPageIn old.lists) (clock_of t.opening) t.now (after t.now made.calls) now.story (Keeps old.device.pages o.table (attempted m.logged m.unfinished) m.acks) stays.reads made.told begun
           (λ n image le keeps. keeps-later old.device.pages o.table (attempted m.logged m.unfinished) m.acks (clock_of t.now) n image t.acked le keeps) t.survives;

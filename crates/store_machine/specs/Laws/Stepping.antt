@@ -6,7 +6,8 @@ use Rattle.wal_log.specs.declared.records.LogOp.TheVariants.{Put, Del}
 use Rattle.store_machine.specs.Machine.{Machine, Opening, does, after_logged, at_opening, after_event, after_all}
 use Rattle.store_machine.specs.Needs.{Needs}
 use Rattle.store_machine.specs.Runs.{IsRun, Stops}
-use Rattle.store_machine.specs.Standing.{StoreState, Has, Stands, IsStanding, Adds, Makes}
+use Rattle.store_machine.specs.Calls.{IsStanding, Adds, Makes}
+use Rattle.store_machine.specs.Standing.{StoreState, Has, Stands}
 use Rattle.store_machine.specs.Laws.Histories.{IsRun-second}
 use Rattle.store_machine.specs.Laws.Steps.{after_all-append}
 use Rattle.store_machine.specs.declared.events.Action.{Action}
@@ -14,7 +15,7 @@ use Rattle.store_machine.specs.declared.events.Action.TheVariants as action
 use Rattle.store_machine.specs.declared.events.Event.{Event}
 
 -- no event stops a machine by what it does
-going-on : (a : Action) (m : Machine) → (does a m).stopped ≡ m.stopped
+pub going-on : (a : Action) (m : Machine) → (does a m).stopped ≡ m.stopped
 going-on (action.Write (Put row) (Ok w)) m = refl
 going-on (action.Write (Del key) (Ok w)) m = by_old w.old
   where
@@ -32,12 +33,12 @@ going-on (action.Freeze least (Ok true)) m = refl
 going-on (action.Freeze least (Ok false)) m = refl
 going-on (action.Freeze least (Err refusal)) m = refl
 going-on (action.Begin (Ok None)) m = refl
-going-on (action.Begin (Ok (Some row))) m = refl
+going-on (action.Begin (Ok (Some own))) m = refl
 going-on (action.Begin (Err refusal)) m = refl
-going-on (action.JobWrite row (Ok done)) m = refl
-going-on (action.JobWrite row (Err refusal)) m = refl
-going-on (action.Install row (Ok done)) m = refl
-going-on (action.Install row (Err refusal)) m = refl
+going-on (action.JobWrite own (Ok done)) m = refl
+going-on (action.JobWrite own (Err refusal)) m = refl
+going-on (action.Install own (Ok done)) m = refl
+going-on (action.Install own (Err refusal)) m = refl
 
 -- an event where the store stands
 pub record Steps (old new : StoreState) (a : Action) : Type 0 where

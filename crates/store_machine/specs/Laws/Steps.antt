@@ -7,13 +7,17 @@ use Rattle.dev_model.specs.Laws.Runs.{after-append}
 use Rattle.dev_model.specs.Laws.CallLists.{ok_calls-append, clock_of-after}
 use Rattle.dev_model.specs.declared.calls.DeviceCall.{DeviceCall}
 use Rattle.table_model.specs.Table.{Table, rows_of}
+use Rattle.primary_ix.specs.declared.rows.PrimRow.{PrimRow}
 use Rattle.store_machine.specs.Crash.{attempted, Keeps}
 use Rattle.store_machine.specs.Laws.Counting.{AreUpTo-later}
-use Rattle.store_machine.specs.Machine.{Group, Machine, Opening, does, group_of, at_opening, after_event, after_all}
+use Rattle.store_machine.specs.Outcomes.{Group}
+use Rattle.store_machine.specs.Machine.{Machine, Opening, does, group_of, at_opening, after_event, after_all}
 use Rattle.kept_state.specs.Keeping.{IsKept}
 use Rattle.kept_state.specs.Reading.{IsLegible}
 use Rattle.store_machine.specs.Runs.{IsRun, Allows}
-use Rattle.store_machine.specs.Standing.{StoreState, Begins, Has, Tells, Stands, Adds, IsEventOf, Makes}
+use Rattle.store_machine.specs.Calls.{Adds, IsEventOf, Makes}
+use Rattle.store_machine.specs.Standing.{StoreState, Begins, Has, Tells, Stands, StandsSince}
+use Rattle.store_machine.specs.Devices.{DeviceState}
 use Rattle.store_machine.specs.declared.events.Action.{Action}
 use Rattle.store_machine.specs.declared.events.Event.{Event}
 
@@ -28,6 +32,19 @@ IsRun-append known m (e ∷ es) fs left right = (left.0, IsRun-append known (aft
 -- lists of events that a store stands for join
 pub Adds-none : (s : StoreState) → Adds s s []
 Adds-none s known o before stands = subst (λ (es : List Event). Stands known o s es) (sym (append-nil before)) stands
+
+-- what a store stands for since it was opened goes on
+pub since-adds : (device : DeviceState) (old new : StoreState) (before events : List Event) → StandsSince device old before → Adds old new events → StandsSince device new (before ++ events)
+since-adds device old new before events since adds = record {
+  opening = since.opening;
+  reads = since.reads;
+  later = since.later;
+  opens = since.opens;
+  untold = adds false since.opening before since.untold;
+  told = λ table s is holds.
+      let stood : _ = since.told table s is holds in
+      (stood.0, adds true (record since.opening { table = table; disk = stood.0 }) before stood.1);
+}
 
 pub Adds-then : (a b c : StoreState) (es fs : List Event) → Adds a b es → Adds b c fs → Adds a c (es ++ fs)
 Adds-then a b c es fs first second known o before stands =
@@ -96,19 +113,20 @@ pub record Changes (old new : StoreState) (action : Action) (failed : Bool) : Ty
   -- only a store that nothing had stopped is stopped, and no group was being logged then
   pub running : failed ≡ true → old.stopped ≡ None
   pub group : failed ≡ true → group_of action ≡ None
-  -- what it makes of the table, which is the same by another name
+  -- what it makes of the table, which is the same by another name, and of the lists that the components' pages show
   pub table : Table → Table
-  pub done : (m : Machine) → Has old m → does action m ≡ record m { seq = new.seq; log = new.log; lists = new.lists; table = table m.table }
+  pub disk : List (List PrimRow) → List (List PrimRow)
+  pub done : (m : Machine) → Has old m → does action m ≡ record m { seq = new.seq; log = new.log; lists = new.lists; disk = disk m.disk; table = table m.table }
 
 -- Where the device told, what a call that leaves the table leaves there: the calls that it made, and after them what the lists need,
--- and what each crash since the opening leaves.
-pub record GoesOn (o : Opening) (old new : StoreState) (m : Machine) (t : Tells o old m) (made : List DeviceCall) : Type 0 where
+-- with those that the components' pages show, and what each crash since the opening leaves.
+pub record GoesOn (o : Opening) (old new : StoreState) (m : Machine) (t : Tells o old m) (disk : List (List PrimRow)) (made : List DeviceCall) : Type 0 where
   pub calls : Calls
   pub told : new.device.story ≡ Some (after t.now calls)
   pub made_is : ok_calls (clock_of t.now) calls ≡ made
   pub clock : new.device.clock ≡ clock_of (after t.now calls)
   pub kept : new.stopped ≡ None → IsKept old.device.pages new.log m.table new.lists (after t.now calls)
-  pub legible : IsLegible m.table new.lists (after t.now calls)
+  pub legible : IsLegible m.table disk new.lists (after t.now calls)
   pub rows : new.lists.rows ≡ length (rows_of m.table)
   pub survives : EachMoment (clock_of t.opening) (after t.now calls) (Keeps old.device.pages o.table (attempted m.logged m.unfinished) m.acks)
 
@@ -123,6 +141,7 @@ module _ (old new : StoreState) (owner : ℕ) (action : Action) (made : List Dev
     seq = new.seq;
     log = new.log;
     lists = new.lists;
+    disk = change.disk m.disk;
     stopped = if failed then Some new.device.faults else m.stopped;
     unfinished = if failed then group_of action else m.unfinished;
     faults = new.device.faults;
@@ -168,7 +187,7 @@ module _ (old new : StoreState) (owner : ℕ) (action : Action) (made : List Dev
           ap (λ (b : Bool). if b then group_of action else m.unfinished) is
           ∙ has.running (ap (λ (b : Bool). if b then Some new.device.faults else m.stopped) (sym is) ∙ going)
 
-  next-tells : (o : Opening) (m : Machine) → Has old m → (t : Tells o old m) → GoesOn o old new m t made → change.table m.table ≡ m.table → Tells o new (next m)
+  next-tells : (o : Opening) (m : Machine) → Has old m → (t : Tells o old m) → GoesOn o old new m t (change.disk m.disk) made → change.table m.table ≡ m.table → Tells o new (next m)
   next-tells o m has t goes same =
       let calls : _ = goes_on o old m t goes.calls made goes.made_is in
       subst (λ (x : Table). Tells o new (record (next m) { table = x })) (sym same)
@@ -193,7 +212,7 @@ module _ (old new : StoreState) (owner : ℕ) (action : Action) (made : List Dev
 
   -- a call that leaves the table makes its event
   pub passes : ((known : Bool) (o : Opening) (m : Machine) → Has old m → (known ≡ true → Tells o old m) → Allows known m event)
-      → ((o : Opening) (m : Machine) → Has old m → (t : Tells o old m) → GoesOn o old new m t made)
+      → ((o : Opening) (m : Machine) → Has old m → (t : Tells o old m) → GoesOn o old new m t (change.disk m.disk) made)
       → ((o : Opening) (m : Machine) → Has old m → (t : Tells o old m) → change.table m.table ≡ m.table)
       → Makes old new owner action
   passes allows goes same =

@@ -1,7 +1,8 @@
 -- An event that writes on the device and leaves the table: a change of segments, a page, an install. No public contract needs these
 -- laws.
 use Rattle.std.proofs.Common.{◌≡◌, ℕ, ◌+◌, true, List, [], length, Option, Some, None, refl, sym, ◌∙◌, ap, subst, arith}
-use Rattle.dev_model.specs.Story.{Story, Calls, HasStoppedIn, all_noted, after, clock_of, WhereTold}
+use Rattle.dev_model.specs.Story.{Story, Calls, after, clock_of, WhereTold}
+use Rattle.dev_model.specs.Doing.{HasStoppedIn, all_noted}
 use Rattle.dev_model.specs.Moments.{EachMoment, LeavesOnly}
 use Rattle.dev_model.specs.DeviceCalls.{ok_calls}
 use Rattle.dev_model.specs.Laws.CallLists.{clock_of-after}
@@ -9,13 +10,15 @@ use Rattle.dev_model.specs.Laws.Plans.{all_noted-told}
 use Rattle.dev_model.specs.declared.calls.DeviceCall.{DeviceCall}
 use Rattle.table_model.specs.Table.{Table}
 use Rattle.component_image.specs.Recovered.{Recovers}
+use Rattle.primary_ix.specs.declared.rows.PrimRow.{PrimRow}
 use Rattle.store_machine.specs.Crash.{attempted, Keeps}
 use Rattle.store_machine.specs.Laws.LogCalls.{IsPlan, failed_calls, StoppedBy, failed-by, plan-length}
-use Rattle.store_machine.specs.Machine.{Group, Machine, Opening}
-use Rattle.store_machine.specs.Standing.{DeviceState, StoreState, Has, Tells}
+use Rattle.store_machine.specs.Outcomes.{Group}
+use Rattle.store_machine.specs.Machine.{Machine, Opening}
+use Rattle.store_machine.specs.Standing.{StoreState, Has, Tells}
+use Rattle.store_machine.specs.Devices.{DeviceState}
 use Rattle.kept_state.specs.Keeping.{IsKept}
 use Rattle.kept_state.specs.Reading.{IsLegible}
-use Rattle.kept_state.specs.Laws.ReadingStays.{kept-legible}
 use Rattle.store_machine.specs.Laws.Crashes.{keeps_table}
 use Rattle.store_machine.specs.Runs.{TakesTime}
 use Rattle.store_machine.specs.Laws.Steps.{GoesOn}
@@ -36,17 +39,20 @@ pub record LeavesTable (old : StoreState) (now : DeviceState) : Type 0 where
   pub any_moment : (table : Table) → WhereTold old.device.story (λ s. IsKept old.device.pages old.log table old.lists s → LeavesOnly s now.story (Recovers old.device.pages table))
   pub clock_told : (s : Story) → now.story ≡ Some s → now.clock ≡ clock_of s
 
--- what one shows that was answered
-pub record Works (old new : StoreState) (plan : Calls) : Type 0 where
+-- what one shows that was answered; the lists that the components' pages show may be others behind it
+pub record Works (old new : StoreState) (disk_after : List (List PrimRow) → List (List PrimRow)) (plan : Calls) : Type 0 where
   pub going : old.stopped ≡ None
   pub leaves : LeavesTable old new.device
   pub planned : IsPlan plan
   pub did : new.device.story ≡ all_noted plan old.device.story
   pub kept : (table : Table) → WhereTold old.device.story (λ s. IsKept old.device.pages old.log table old.lists s → WhereTold new.device.story (IsKept old.device.pages new.log table new.lists))
+  pub legible : (table : Table) (disk : List (List PrimRow)) → WhereTold old.device.story (λ s. IsKept old.device.pages old.log table old.lists s → IsLegible table disk old.lists s
+      → WhereTold new.device.story (IsLegible table (disk_after disk) new.lists))
   pub rows : new.lists.rows ≡ old.lists.rows
 
-pub works-go_on : (o : Opening) (old new : StoreState) (plan : Calls) (m : Machine) → Works old new plan → Has old m → (t : Tells o old m) → GoesOn o old new m t (ok_calls old.device.clock plan)
-works-go_on o old new plan m works has t =
+pub works-go_on : (o : Opening) (old new : StoreState) (disk_after : List (List PrimRow) → List (List PrimRow)) (plan : Calls) (m : Machine) → Works old new disk_after plan → Has old m → (t : Tells o old m)
+    → GoesOn o old new m t (disk_after m.disk) (ok_calls old.device.clock plan)
+works-go_on o old new disk_after plan m works has t =
     let running : m.stopped ≡ None = sym has.stopped ∙ works.going in
     let u : Story = after t.now plan in
     let told : new.device.story ≡ Some u = works.did ∙ all_noted-told t.now plan old.device.story t.told in
@@ -58,14 +64,14 @@ works-go_on o old new plan m works has t =
       made_is = ap (λ (clock : ℕ). ok_calls clock plan) (sym t.clock);
       clock = works.leaves.clock_told u told;
       kept = λ _. next;
-      legible = kept-legible old.device.pages new.log m.table new.lists u next;
+      legible = works.legible m.table m.disk t.now t.told kept t.legible u told;
       rows = works.rows ∙ t.rows;
       survives = table-survives o old m has t running u new.device.story (works.leaves.any_moment m.table t.now t.told kept) told;
     }
 
 -- its device calls are all that the clock counted
-pub works-time : (o : Opening) (old new : StoreState) (plan : Calls) (m : Machine) → Works old new plan → Has old m → (t : Tells o old m) → new.device.clock ≡ m.clock + length (ok_calls old.device.clock plan)
-works-time o old new plan m works has t =
+pub works-time : (o : Opening) (old new : StoreState) (disk_after : List (List PrimRow) → List (List PrimRow)) (plan : Calls) (m : Machine) → Works old new disk_after plan → Has old m → (t : Tells o old m) → new.device.clock ≡ m.clock + length (ok_calls old.device.clock plan)
+works-time o old new disk_after plan m works has t =
     let told : new.device.story ≡ Some (after t.now plan) = works.did ∙ all_noted-told t.now plan old.device.story t.told in
     let at : old.device.clock ≡ m.clock = has.clock in
     omega (arith, at, t.clock, works.leaves.clock_told (after t.now plan) told, clock_of-after t.now plan, plan-length old.device.clock plan works.planned)
@@ -76,7 +82,7 @@ pub record WorkFails (old : StoreState) (now : DeviceState) (plan : Calls) : Typ
   pub leaves : LeavesTable old now
   pub planned : IsPlan plan
   pub did : HasStoppedIn plan old.device.story now.story
-  pub legible : (table : Table) → WhereTold old.device.story (λ s. IsLegible table old.lists s → WhereTold now.story (IsLegible table old.lists))
+  pub legible : (table : Table) (disk : List (List PrimRow)) → WhereTold old.device.story (λ s. IsLegible table disk old.lists s → WhereTold now.story (IsLegible table disk old.lists))
 
 -- the calls of one that failed, as far as they succeeded
 abbrev pub stopped_calls : (old : StoreState) (now : DeviceState) (plan : Calls) → WorkFails old now plan → List DeviceCall
@@ -86,7 +92,7 @@ abbrev pub stopped_state : StoreState → DeviceState → StoreState
 stopped_state old now = record old { device = now; stopped = Some now.faults }
 
 pub fails-go_on : (o : Opening) (old : StoreState) (now : DeviceState) (plan : Calls) (m : Machine) → (fails : WorkFails old now plan) → Has old m → (t : Tells o old m)
-    → GoesOn o old (stopped_state old now) m t (stopped_calls old now plan fails)
+    → GoesOn o old (stopped_state old now) m t m.disk (stopped_calls old now plan fails)
 fails-go_on o old now plan m fails has t =
     let running : m.stopped ≡ None = sym has.stopped ∙ fails.going in
     let by : StoppedBy t.now now.story (ok_calls (clock_of t.now) plan) (stopped_calls old now plan fails) = failed-by old.device.story now.story plan fails.planned fails.did t.now t.told in
@@ -97,7 +103,7 @@ fails-go_on o old now plan m fails has t =
       made_is = by.made_is;
       clock = fails.leaves.clock_told u by.told;
       kept = λ stopped. absurd (let none : ◌≡◌ {A = Option ℕ} (Some now.faults) None = stopped in cc);
-      legible = fails.legible m.table t.now t.told t.legible u by.told;
+      legible = fails.legible m.table m.disk t.now t.told t.legible u by.told;
       rows = t.rows;
       survives = table-survives o old m has t running u now.story (fails.leaves.any_moment m.table t.now t.told (t.kept running)) by.told;
     }
@@ -115,15 +121,15 @@ fails-time o old now plan m fails has t =
 -- an event without a device call
 pub stays-there : (o : Opening) (old new : StoreState) (m : Machine) → Has old m → (t : Tells o old m) → new.device ≡ old.device → new.log ≡ old.log → new.stopped ≡ old.stopped → new.lists.rows ≡ old.lists.rows
     → ((table : Table) (s : Story) → IsKept old.device.pages old.log table old.lists s → IsKept old.device.pages old.log table new.lists s)
-    → ((table : Table) (s : Story) → IsLegible table old.lists s → IsLegible table new.lists s)
-    → GoesOn o old new m t []
+    → ((table : Table) (disk : List (List PrimRow)) (s : Story) → IsLegible table disk old.lists s → IsLegible table disk new.lists s)
+    → GoesOn o old new m t m.disk []
 stays-there o old new m has t device log stopped rows kept legible = record {
   calls = [];
   told = ap (λ (d : DeviceState). d.story) device ∙ t.told;
   made_is = refl;
   clock = ap (λ (d : DeviceState). d.clock) device ∙ t.clock;
   kept = λ going. subst (λ (l : _). IsKept old.device.pages l m.table new.lists t.now) (sym log) (kept m.table t.now (t.kept (sym has.stopped ∙ sym stopped ∙ going)));
-  legible = legible m.table t.now t.legible;
+  legible = legible m.table m.disk t.now t.legible;
   rows = rows ∙ t.rows;
   survives = t.survives;
 }

@@ -16,10 +16,12 @@ use Rattle.comp_dir.specs.declared.places.TheConstants.{LSN_LIMIT}
 use Rattle.comp_dir.specs.declared.slots.Slot.{Slot}
 use Rattle.primary_ix.specs.Rows.{prim_layout}
 use Rattle.primary_ix.specs.declared.rows.PrimRow.{PrimRow}
-use Rattle.build_job.specs.Jobs.{IsJob, IsPlaceable, described}
+use Rattle.build_job.specs.Jobs.{described}
+use Rattle.build_job.specs.Steps.{IsJob, IsPlaceable}
 use Rattle.build_job.specs.Laws.Describing.{described-IsSound}
 use Rattle.store_state.specs.declared.jobs.JobRow.{JobRow}
-use Rattle.store_state.specs.Lists.{Lists, IsLists, IsPlanned, IsPlannedIf, IsCut, job_of, extent_of, extents_of, open_of, frozen_rows, placed_up_to}
+use Rattle.store_state.specs.Lists.{Lists, job_of, extent_of, extents_of, open_of, frozen_rows, placed_up_to}
+use Rattle.store_state.specs.EveryList.{IsLists, IsPlanned, IsPlannedIf, IsCut}
 
 leaves : (s : Shape) (root : ℕ) → level_size s root ≡ 1 → level_size s 0 ≤ level_start s root + 1
 leaves s root alone = elim (cases_lt 0 root) [

@@ -2,7 +2,9 @@
 use Rattle.std.proofs.Common.{◌≡◌, ℕ, zero, suc, ◌+◌, ◌-◌, ◌<◌, ◌≤◌, min, slice_get, Some, List, [], ◌∷◌, ◌++◌, take, drop, map, length, get_or, arith, refl, sym, ◌∙◌, ap, inl, inr, length-drop, get_or-drop}
 use Rattle.std.proofs.lemmas.Bool.{cases_lt}
 use Rattle.std.proofs.lemmas.List.{take_more, map-append}
-use Rattle.page_codec.specs.Page.{most_rows, kind_of, row_count, rows_in, rows_on, page_of, AllOfWidth}
+use Rattle.page_codec.specs.Page.{most_rows, kind_of, row_count, rows_in, rows_on}
+use Rattle.page_codec.specs.Written.{page_of}
+use Rattle.page_codec.specs.Adding.{AllOfWidth}
 use Rattle.page_codec.specs.Laws.{row_count-page_of}
 use Rattle.tree_shape.specs.Shape.{numbers}
 

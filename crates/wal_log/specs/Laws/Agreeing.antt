@@ -8,7 +8,8 @@ use Rattle.dev_model.specs.Story.{Bytes, Story, bytes_of, part, IsImageNow}
 use Rattle.dev_model.specs.Laws.Ranges.{part-same, part-list}
 use Rattle.wal_log.specs.Places.{segment_start, record_start}
 use Rattle.wal_log.specs.State.{IsStill}
-use Rattle.wal_log.specs.Segments.{Segment, open_records, segment_records, segment_header, segment_at, segments_of, with_records, gated, behind_gate, AreWide, IsLooked}
+use Rattle.wal_log.specs.Segments.{Segment, open_records, segment_records, segment_header, segment_at, segments_of, IsLooked}
+use Rattle.wal_log.specs.Growing.{with_records, gated, behind_gate, AreWide}
 
 pub open_records-shut : (places at : ℕ) (a : Bytes) → a at ≢ 165 → open_records places at a ≡ []
 unfolding open_records

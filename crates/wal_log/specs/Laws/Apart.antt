@@ -2,7 +2,8 @@
 use Rattle.std.proofs.Common.{◌≡◌, ◌⊎◌, inl, inr, ⊎_elim, ℕ, ◌+◌, ◌<◌, ◌≤◌, Option, Some, length, refl, sym, ◌∙◌, ap, arith, ◌==◌}
 use Rattle.std.proofs.lemmas.Nat.{mod_below}
 use Rattle.dev_model.specs.Story.{Story, bytes_of, clock_of, IsOutside}
-use Rattle.dev_model.specs.Moments.{EachMoment, WritesWithin}
+use Rattle.dev_model.specs.Moments.{EachMoment}
+use Rattle.dev_model.specs.Writes.{WritesWithin}
 use Rattle.dev_model.specs.Laws.Frame.{IsReadAt, Stays, frame-within}
 use Rattle.wal_log.specs.Places.{segment_start}
 use Rattle.wal_log.specs.Segments.{segments_of, IsLooked}

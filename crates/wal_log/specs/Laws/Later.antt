@@ -7,7 +7,8 @@ use Rattle.wal_log.specs.Records.{IsRecord, record_of}
 use Rattle.wal_log.specs.Segments.{Segments}
 use Rattle.wal_log.specs.Rules.{Numbered, first_lsn_of, next_lsn_of, AreRecords, IsEnd, AreSound, OpensFrom, Opens, in_order, records_in, records_of}
 use Rattle.wal_log.specs.State.{HasLast, IsLogOf}
-use Rattle.wal_log.specs.Later.{later, up_to}
+use Rattle.wal_log.specs.Later.{later}
+use Rattle.wal_log.specs.UpTo.{up_to}
 use Rattle.wal_log.specs.declared.log.Log.{Log}
 use Rattle.wal_log.specs.declared.records.Record.{Record}
 

@@ -3,12 +3,14 @@ use Rattle.std.proofs.Common.{◌≡◌, inl, inr, ℕ, ◌-◌, ◌++◌, lengt
 use Rattle.std.proofs.lemmas.Bool.{cases_eq}
 use Rattle.std.proofs.lemmas.Option.{same_Some}
 use Rattle.dev_model.specs.Story.{Bytes, Story, Calls, bytes_of, after, clock_of}
-use Rattle.dev_model.specs.Moments.{EachMoment, AreSpared}
+use Rattle.dev_model.specs.Moments.{EachMoment}
+use Rattle.dev_model.specs.Writes.{AreSpared}
 use Rattle.dev_model.specs.Laws.Frame.{EachMoment-spared}
 use Rattle.dev_model.specs.Laws.Runs.{EachMoment-weaker}
 use Rattle.wal_log.specs.Places.{segment_start, record_start}
 use Rattle.wal_log.specs.State.{IsSegmentStill}
-use Rattle.wal_log.specs.Segments.{Segment, open_records, segment_records, segment_header, segment_at, IsLooked, IsRecorded, StartsWith}
+use Rattle.wal_log.specs.Segments.{Segment, open_records, segment_records, segment_header, segment_at, IsLooked}
+use Rattle.wal_log.specs.Growing.{IsRecorded, StartsWith}
 use Rattle.wal_log.specs.Laws.Agreeing.{segment_at-open, segment_at-shut, segment_header-same, segment_records-front, segment_records-few}
 
 -- the segment that bytes have

@@ -2,14 +2,14 @@ use Rattle.std.proofs.Common.{◌≡◌, ℕ, suc, ◌-◌, ◌<◌, [], ◌∷�
 use Rattle.std.specs.Prelude.{IsTrue}
 use Rattle.std.proofs.lemmas.List.Elements.{All-append, All-cons}
 use Rattle.tree_shape.specs.Shape.{IsPlace}
-use Rattle.btree_image.specs.Image.{shape_of, page_number, IsShown}
+use Rattle.btree_image.specs.Image.{shape_of}
+use Rattle.btree_image.specs.Pages.{page_number, IsShown}
 use Rattle.btree_image.specs.Damage.{IsTested}
 use Rattle.btree_image.proofs.Told.{tested_last}
 use Rattle.btree_image.specs.Descent.{place_of_key, descent}
 use Rattle.btree_image.proofs.Widths.{leaf_room, inner_room}
 use Rattle.tree_shape.specs.Laws.Places.{place_below, rows_above}
-use Rattle.tree_shape.specs.Laws.Trail.{goes-by, given-append}
-use Rattle.tree_shape.specs.Laws.Trail.{went-then, went-err}
+use Rattle.tree_shape.specs.Laws.Trail.{goes-by, given-append, went-then, went-err}
 use Rattle.btree_image.proofs.Trail.{path_next, path_last, path_first, root_place}
 use Rattle.btree_image.proofs.descend.find.Goals as goal
 

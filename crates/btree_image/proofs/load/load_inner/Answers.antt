@@ -2,10 +2,11 @@ use Rattle.std.proofs.Common.{arith, ◌≡◌, suc, ◌+◌, ◌-◌, ◌*◌, 
 use Rattle.std.proofs.lemmas.List.{length-map}
 use Rattle.std.proofs.Math.Numerals.{add-one}
 use Rattle.std.specs.Int.{to_be_bytes, w32}
-use Rattle.page_codec.specs.Page.{row_width, most_rows, kind_of, row_count, page_of, AllOfWidth, ShowsRows}
+use Rattle.page_codec.specs.Page.{row_width, most_rows, kind_of, row_count, ShowsRows}
+use Rattle.page_codec.specs.Written.{page_of}
+use Rattle.page_codec.specs.Adding.{AllOfWidth}
 use Rattle.page_codec.specs.Laws.{ShowsRows-page_of}
-use Rattle.tree_shape.specs.Shape.{level_size, span}
-use Rattle.tree_shape.specs.Shape.{numbers, children_at}
+use Rattle.tree_shape.specs.Shape.{level_size, span, numbers, children_at}
 use Rattle.btree_image.specs.Image.{shape_of, level_rows, child_row}
 use Rattle.btree_image.proofs.Widths.{most_rows-least, leaf_room, inner_room}
 use Rattle.tree_shape.specs.Laws.Numbers.{length-numbers, children_at-numbers}

@@ -1,5 +1,7 @@
 use Rattle.std.proofs.Common.{◌≡◌, ◌-◌, suc, map}
-use Rattle.page_codec.specs.Page.{page_of, row_width, AllOfWidth}
+use Rattle.page_codec.specs.Page.{row_width}
+use Rattle.page_codec.specs.Written.{page_of}
+use Rattle.page_codec.specs.Adding.{AllOfWidth}
 use Rattle.tree_shape.specs.Shape.{numbers}
 use Rattle.btree_image.specs.Image.{child_row}
 use Rattle.btree_image.proofs.load.load_inner.Given as goal

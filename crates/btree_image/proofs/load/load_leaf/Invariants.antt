@@ -1,5 +1,7 @@
 use Rattle.std.proofs.Common.{◌≡◌, ◌-◌, map, take, drop}
-use Rattle.page_codec.specs.Page.{page_of, row_width, AllOfWidth}
+use Rattle.page_codec.specs.Page.{row_width}
+use Rattle.page_codec.specs.Written.{page_of}
+use Rattle.page_codec.specs.Adding.{AllOfWidth}
 use Rattle.btree_image.proofs.load.load_leaf.Given as goal
 
 abbrev pub invariant-loop-i : goal.invariant-loop-i

@@ -1,6 +1,7 @@
 use Rattle.std.proofs.Common.{arith, ◌≡◌, suc, ◌-◌, sym, subst, length}
 use Rattle.page_codec.specs.Page.{ShowsRows}
-use Rattle.btree_image.specs.Image.{shape_of, level_kind, level_page, level_rows}
+use Rattle.btree_image.specs.Image.{shape_of, level_kind, level_rows}
+use Rattle.btree_image.specs.Pages.{level_page}
 use Rattle.tree_shape.specs.Laws.Places.{at_place}
 use Rattle.btree_image.proofs.load.load_page.Goals as goal
 

@@ -1,6 +1,6 @@
 use Rattle.std.proofs.Common.{◌≡◌, ◌-◌, ◌<◌, suc, [], Some, None, map, arith, refl, sym, ◌∙◌, ap, subst}
 use Rattle.std.proofs.Math.Numerals.{add-one}
-use Rattle.btree_image.specs.Image.{page_number}
+use Rattle.btree_image.specs.Pages.{page_number}
 use Rattle.btree_image.specs.Walks.{IsInHand}
 use Rattle.btree_image.proofs.Widths.{leaf_room, inner_room}
 use Rattle.btree_image.proofs.Along.{goes-on, goes-short, goes-same, goes-nowhere}

@@ -1,5 +1,5 @@
 use Rattle.std.proofs.Common.{[], Some, None, map, arith, sym, ◌∙◌, ap, subst, max, suc, ◌-◌}
-use Rattle.btree_image.specs.Image.{page_number}
+use Rattle.btree_image.specs.Pages.{page_number}
 use Rattle.btree_image.specs.Walks.{IsInHand}
 use Rattle.btree_image.proofs.Along.{goes-on, goes-short, goes-same, goes-nowhere}
 use Rattle.btree_image.proofs.Places.{places-none, places-whole, behind-none, behind-step, behind-whole, run-next, run-left}

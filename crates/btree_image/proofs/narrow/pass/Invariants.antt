@@ -1,5 +1,5 @@
 use Rattle.std.proofs.Common.{◌≡◌, ◌≤◌, [], None, map, max}
-use Rattle.btree_image.specs.Image.{page_number}
+use Rattle.btree_image.specs.Pages.{page_number}
 use Rattle.btree_image.specs.Walks.{GoesOn, Holds, places_in, next_behind}
 use Rattle.btree_image.proofs.narrow.pass.Given as goal
 

@@ -1,7 +1,8 @@
 use Rattle.std.proofs.Common.{sym, ◌∙◌, ap, subst}
 use Rattle.dev_model.specs.Story.{Story, bytes_of}
 use Rattle.comp_dir.specs.Directory.{directory_of}
-use Rattle.comp_dir.specs.State.{IsAtRest, close_calls}
+use Rattle.comp_dir.specs.State.{close_calls}
+use Rattle.comp_dir.specs.Resting.{IsAtRest}
 use Rattle.comp_dir.proofs.Turning.{did-gate, gate-within, close-leaves, close-rests, close-ends, after-ok}
 use Rattle.comp_dir.proofs.gates.close_gate.Goals as goal
 

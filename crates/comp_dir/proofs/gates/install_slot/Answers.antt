@@ -1,7 +1,7 @@
 use Rattle.std.proofs.Common.{Err, sym, ◌∙◌, ap, subst}
 use Rattle.dev_model.specs.Story.{Story, bytes_of}
 use Rattle.comp_dir.specs.Directory.{directory_of}
-use Rattle.comp_dir.specs.State.{IsAtRest, install_calls}
+use Rattle.comp_dir.specs.Resting.{IsAtRest, install_calls}
 use Rattle.comp_dir.proofs.Turning.{install-stops, install-unsynced, install-goes, install-within, install-leaves, install-rests, install-ends, after-ok}
 use Rattle.comp_dir.proofs.gates.install_slot.Goals as goal
 

@@ -1,7 +1,7 @@
 use Rattle.std.proofs.Common.{◌∙◌, arith, refl}
 use Rattle.dev_model.specs.Story.{bytes_of}
 use Rattle.dev_model.specs.Laws.Reads.{ReadsWithin-start, ReadsWithin-then}
-use Rattle.comp_dir.specs.Places.{IsInDirectory}
+use Rattle.comp_dir.specs.Reads.{IsInDirectory}
 use Rattle.comp_dir.proofs.Finding.{where-bad, dir-next, dir-bad, found-none, found-whole, found-all, all-obey, lawful-next, lawful-none}
 use Rattle.comp_dir.proofs.reading.read_dir.Goals as goal
 

@@ -1,7 +1,7 @@
 use Rattle.std.proofs.Common.{◌≡◌, ◌+◌, ◌*◌, ◌≤◌}
 use Rattle.dev_model.specs.Story.{WhereTold, bytes_of}
-use Rattle.comp_dir.specs.Places.{ReadsDirectory}
-use Rattle.comp_dir.specs.State.{IsAtRest}
+use Rattle.comp_dir.specs.Reads.{ReadsDirectory}
+use Rattle.comp_dir.specs.Resting.{IsAtRest}
 use Rattle.comp_dir.specs.Found.{HasFound, AreLawful}
 use Rattle.comp_dir.proofs.reading.read_dir.Given as goal
 

@@ -1,5 +1,5 @@
 use Rattle.std.proofs.Common.{◌++◌, ◌∙◌, rules}
-use Rattle.dev_model.specs.Story.{HasStoppedIn}
+use Rattle.dev_model.specs.Doing.{HasStoppedIn}
 use Rattle.device_format.specs.Planning.{close_superblock_if, close_gates, start_log, write_superblock, write_calls}
 use Rattle.device_format.proofs.Joining.{stopped_first, stopped_behind, did_both, same_pages}
 use Rattle.device_format.proofs.format.write_store.Goals as goal

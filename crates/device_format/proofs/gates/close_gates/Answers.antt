@@ -1,5 +1,6 @@
 use Rattle.std.proofs.Common.{[], ◌∷◌, ◌++◌, rules}
-use Rattle.dev_model.specs.Story.{Sync, HasStoppedIn}
+use Rattle.dev_model.specs.Story.{Sync}
+use Rattle.dev_model.specs.Doing.{HasStoppedIn}
 use Rattle.dev_model.specs.Laws.Plans.{Did-call}
 use Rattle.comp_dir.specs.Places.{slot_start}
 use Rattle.image_model.specs.declared.places.TheConstants.{LOG_START}

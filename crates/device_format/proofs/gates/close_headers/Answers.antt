@@ -1,7 +1,7 @@
 use Rattle.std.proofs.Common.{arith, rules}
 use Rattle.wal_log.specs.Places.{segment_start}
 use Rattle.image_model.specs.declared.places.TheConstants.{LOG_START}
-use Rattle.dev_model.specs.Story.{HasStoppedIn}
+use Rattle.dev_model.specs.Doing.{HasStoppedIn}
 use Rattle.device_format.specs.Planning.{close_each}
 use Rattle.device_format.proofs.Closing.{close_stopped}
 use Rattle.device_format.proofs.gates.close_headers.Goals as goal

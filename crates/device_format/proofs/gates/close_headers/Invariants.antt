@@ -1,5 +1,5 @@
 use Rattle.std.proofs.Common.{◌≡◌, ◌≤◌, ◌+◌}
-use Rattle.dev_model.specs.Story.{all_noted}
+use Rattle.dev_model.specs.Doing.{all_noted}
 use Rattle.wal_log.specs.Places.{segment_start}
 use Rattle.image_model.specs.declared.places.TheConstants.{LOG_START}
 use Rattle.device_format.specs.Planning.{close_each}

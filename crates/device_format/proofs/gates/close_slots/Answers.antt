@@ -1,6 +1,6 @@
 use Rattle.std.proofs.Common.{ℕ, ◌+◌, ◌*◌, ap, arith, rules}
 use Rattle.comp_dir.specs.Places.{slot_start}
-use Rattle.dev_model.specs.Story.{HasStoppedIn}
+use Rattle.dev_model.specs.Doing.{HasStoppedIn}
 use Rattle.device_format.specs.Planning.{close_each}
 use Rattle.device_format.proofs.Closing.{close_stopped}
 use Rattle.device_format.proofs.gates.close_slots.Goals as goal

@@ -1,5 +1,5 @@
 use Rattle.std.proofs.Common.{◌≡◌, ◌≤◌, ◌+◌}
-use Rattle.dev_model.specs.Story.{all_noted}
+use Rattle.dev_model.specs.Doing.{all_noted}
 use Rattle.comp_dir.specs.Places.{slot_start}
 use Rattle.device_format.specs.Planning.{close_each}
 use Rattle.device_format.proofs.gates.close_slots.Given as goal

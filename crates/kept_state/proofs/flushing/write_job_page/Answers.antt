@@ -1,5 +1,6 @@
 use Rattle.std.proofs.Common.{rules, ◌≡◌, ◌+◌, ◌*◌, ℕ, [], ◌∷◌, length, sym, subst}
-use Rattle.dev_model.specs.Story.{HasStoppedIn, Write}
+use Rattle.dev_model.specs.Story.{Write}
+use Rattle.dev_model.specs.Doing.{HasStoppedIn}
 use Rattle.store_state.specs.Lists.{Lists}
 use Rattle.store_state.specs.Steps.{one_written}
 use Rattle.kept_state.specs.Keeping.{IsKept}
@@ -26,9 +27,9 @@ returns-in_err-write_page-clause-any_moment g c log table s is kept =
     (next-free c.args.state.now.0 c.lists_have_rules.ensures c.requires.begun.0 c.args.job.now c.requires.begun.1 c.requires.left c.in-Write.page next (g.D.Device.pages c.args.device.now) log table s kept)
 
 pub returns-in_err-write_page-clause-legible : goal.returns-in_err-write_page-clause-legible
-returns-in_err-write_page-clause-legible g c table s is legible t told =
+returns-in_err-write_page-clause-legible g c table disk s is legible t told =
     let next : c.in-Write.page ≡ c.args.job.now.plan.extent.first + c.args.job.now.written = search rules in
-    legible-beside c.args.state.now.0 c.lists_have_rules.ensures c.requires.begun.0 c.args.job.now c.requires.begun.1 c.requires.left c.in-Write.page next table s t (g.D.Device.story c.write_page.new.device)
+    legible-beside c.args.state.now.0 c.lists_have_rules.ensures c.requires.begun.0 c.args.job.now c.requires.begun.1 c.requires.left c.in-Write.page next table disk s t (g.D.Device.story c.write_page.new.device)
     (c.write_page.ensures.within s is) told legible
 
 pub returns-clause-any_moment : goal.returns-clause-any_moment
@@ -49,9 +50,9 @@ returns-clause-kept g c log table s is kept t told =
     (c.in_ok-write_page.ensures.written s is t told) c.page.ensures)
 
 pub returns-clause-legible : goal.returns-clause-legible
-returns-clause-legible g c table s is legible t told =
+returns-clause-legible g c table disk s is legible t told =
     let next : c.in-Write.page ≡ c.args.job.now.plan.extent.first + c.args.job.now.written = search rules in
     let lists : c.wrote-2.new.self.0 ≡ one_written c.args.state.now.0 = search rules in
-    subst (λ (l : Lists). IsLegible table l t) (sym lists)
-    (legible-written c.args.state.now.0 c.lists_have_rules.ensures c.requires.begun.0 c.args.job.now c.requires.begun.1 c.requires.left c.in-Write.page next table s t (g.D.Device.story c.write_page.new.device)
+    subst (λ (l : Lists). IsLegible table disk l t) (sym lists)
+    (legible-written c.args.state.now.0 c.lists_have_rules.ensures c.requires.begun.0 c.args.job.now c.requires.begun.1 c.requires.left c.in-Write.page next table disk s t (g.D.Device.story c.write_page.new.device)
     (c.write_page.ensures.within s is) told legible)

@@ -1,9 +1,9 @@
-use Rattle.kept_state.specs.Reading.{IsPageIn}
+use Rattle.kept_state.specs.OnlyRead.{IsPageIn}
 use Rattle.kept_state.specs.Laws.ReadingStays.{legible-reads, kept-reads, images-reads}
 use Rattle.kept_state.proofs.legible.reads_keep_the_store.Goals as goal
 
 pub returns-clause-legible : goal.returns-clause-legible
-returns-clause-legible c table l s t now run told is legible = legible-reads (IsPageIn l) s now run t told table l is legible
+returns-clause-legible c table disk l s t now run told is legible = legible-reads (IsPageIn l) s now run t told table disk l is legible
 
 pub returns-clause-kept : goal.returns-clause-kept
 returns-clause-kept c pages log table l s t now run told kept = kept-reads (IsPageIn l) s now run t told pages log table l kept

@@ -1,6 +1,6 @@
 use Rattle.std.proofs.Common.{rules, ◌∙◌, ap, []}
 use Rattle.std.proofs.lemmas.List.Elements.{All-nil}
-use Rattle.primary_ix.specs.Components.{IsTestedIn}
+use Rattle.primary_ix.specs.Pages.{IsTestedIn}
 use Rattle.primary_ix.specs.Lookups.{lookup_pages}
 use Rattle.kept_state.proofs.Found.{found-memory, pages-memory, found-disk, pages-disk}
 use Rattle.kept_state.proofs.Lent.{shown-there, roots-there, tested-there, goes-as, found-as}

@@ -34,9 +34,9 @@ returns-clause-kept g c table s is kept says t told =
     (rows-few (g.D.Device.pages c.args.device.now) c.args.log.now table c.args.state.now.0 s kept c.lists_have_rules.ensures c.requires.counted))
 
 pub returns-in_err-ack-clause-legible : goal.returns-in_err-ack-clause-legible
-returns-in_err-ack-clause-legible g c table s is legible t told =
-    legible-logged table c.args.state.now.0 s t (g.D.Device.story c.append_record.new.device) c.lists_have_rules.ensures legible (c.append_record.ensures.within s is) told
+returns-in_err-ack-clause-legible g c table disk s is legible t told =
+    legible-logged table disk c.args.state.now.0 s t (g.D.Device.story c.append_record.new.device) c.lists_have_rules.ensures legible (c.append_record.ensures.within s is) told
 
 pub returns-clause-legible : goal.returns-clause-legible
-returns-clause-legible g c table s is legible t told =
-    legible-logged table c.args.state.now.0 s t (g.D.Device.story c.append_record.new.device) c.lists_have_rules.ensures legible (c.append_record.ensures.within s is) told
+returns-clause-legible g c table disk s is legible t told =
+    legible-logged table disk c.args.state.now.0 s t (g.D.Device.story c.append_record.new.device) c.lists_have_rules.ensures legible (c.append_record.ensures.within s is) told

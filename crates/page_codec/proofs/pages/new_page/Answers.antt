@@ -1,5 +1,5 @@
 use Rattle.std.proofs.Common.{refl}
-use Rattle.page_codec.specs.Page.{page_of, joined}
+use Rattle.page_codec.specs.Written.{page_of, joined}
 use Rattle.page_codec.proofs.pages.new_page.Goals as goal
 
 pub returns : goal.returns

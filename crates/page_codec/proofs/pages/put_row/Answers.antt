@@ -1,5 +1,6 @@
 use Rattle.std.proofs.Common.{◌+◌, ◌*◌, length, refl, ap, ◌∙◌, arith}
-use Rattle.page_codec.specs.Page.{with_row, row_count, rows_on}
+use Rattle.page_codec.specs.Page.{row_count, rows_on}
+use Rattle.page_codec.specs.Adding.{with_row}
 use Rattle.page_codec.proofs.Rows.{replaced, rows_on-with_row, with_row_written}
 use Rattle.page_codec.proofs.pages.put_row.Goals as goal
 

@@ -1,5 +1,5 @@
 use Rattle.std.proofs.Common.{◌≡◌, List, ◌++◌, true, map, ◌∙◌, ap, subst, Vec, Global}
-use Rattle.order_merge.specs.Entries.{IsMergeOf}
+use Rattle.order_merge.specs.Merged.{IsMergeOf}
 use Rattle.order_merge.specs.Views.{lists_of}
 use Rattle.primary_ix.specs.declared.rows.PrimRow.{PrimRow}
 use Rattle.primary_ix.specs.Rows.{prim_reading}

@@ -3,11 +3,12 @@ use Rattle.std.specs.Prelude.{Err}
 use Rattle.std.proofs.lemmas.List.{append-nil}
 use Rattle.std.proofs.lemmas.List.Elements.{All-append, All-cons, All-nil}
 use Rattle.tree_shape.specs.Laws.Trail.{went-err}
-use Rattle.order_merge.specs.Entries.{Ascends}
+use Rattle.order_merge.specs.Ascending.{Ascends}
 use Rattle.primary_ix.specs.declared.component.PrimComp.{PrimComp}
 use Rattle.primary_ix.specs.declared.rows.PrimRow.{PrimRow}
 use Rattle.primary_ix.specs.Rows.{prim_reading}
-use Rattle.primary_ix.specs.Components.{AreShown, IsTestedIn}
+use Rattle.primary_ix.specs.Components.{AreShown}
+use Rattle.primary_ix.specs.Pages.{IsTestedIn}
 use Rattle.primary_ix.proofs.Joined.{went-join, asked-join, lent-join, left-join, whole-join}
 use Rattle.primary_ix.proofs.Passed.{tested_in}
 use Rattle.primary_ix.proofs.Whole.{scan-here, scan-end, lists-more}

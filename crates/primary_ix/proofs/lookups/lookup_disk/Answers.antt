@@ -2,7 +2,8 @@ use Rattle.std.proofs.Common.{◌≡◌, suc, ◌+◌, ◌<◌, ◌≤◌, [], �
 use Rattle.std.specs.Prelude.{Ok, Err}
 use Rattle.std.proofs.lemmas.List.Elements.{All-append}
 use Rattle.primary_ix.specs.declared.component.PrimComp.{PrimComp}
-use Rattle.primary_ix.specs.Components.{AreShown, IsTestedIn}
+use Rattle.primary_ix.specs.Components.{AreShown}
+use Rattle.primary_ix.specs.Pages.{IsTestedIn}
 use Rattle.primary_ix.specs.Laws.Agreeing.{row_with_key-entry_at}
 use Rattle.primary_ix.proofs.Joined.{went-join, asked-join, lent-join, left-join, whole-join}
 use Rattle.primary_ix.proofs.Passed.{newest-found, newest-passed, newest-end, way-here, way-found, way-passed, way-end, tested_in}

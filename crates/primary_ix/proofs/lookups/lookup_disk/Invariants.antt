@@ -1,11 +1,12 @@
 use Rattle.std.proofs.Common.{◌≡◌, ℕ, ◌≤◌, List, ◌++◌, All, drop}
 use Rattle.std.specs.Prelude.{IsTrue}
 use Rattle.dev_model.specs.Story.{WhereTold}
-use Rattle.tree_shape.specs.Asked.{given}
+use Rattle.tree_shape.specs.Given.{given}
 use Rattle.order_merge.specs.Entries.{newest_at}
 use Rattle.primary_ix.specs.declared.rows.PrimRow.{PrimRow}
 use Rattle.primary_ix.specs.Rows.{prim_reading}
-use Rattle.primary_ix.specs.Components.{AreShown, AreRoots, IsTestedIn}
+use Rattle.primary_ix.specs.Components.{AreShown, AreRoots}
+use Rattle.primary_ix.specs.Pages.{IsTestedIn}
 use Rattle.primary_ix.specs.Lookups.{lookup_pages}
 use Rattle.primary_ix.proofs.lookups.lookup_disk.Given as goal
 

@@ -2,7 +2,9 @@ use Rattle.std.proofs.Common.{arith, lit≤, ◌≡◌, suc, ◌+◌, ◌-◌, �
 use Rattle.std.proofs.lemmas.List.{length-map}
 use Rattle.std.proofs.Math.Numerals.{add-one}
 use Rattle.std.specs.Int.{to_be_bytes, w32}
-use Rattle.page_codec.specs.Page.{row_width, kind_of, page_of, AllOfWidth, ShowsRows, IsKind}
+use Rattle.page_codec.specs.Page.{row_width, kind_of, ShowsRows}
+use Rattle.page_codec.specs.Written.{page_of}
+use Rattle.page_codec.specs.Adding.{AllOfWidth, IsKind}
 use Rattle.page_codec.specs.Laws.{ShowsRows-page_of}
 use Rattle.page_codec.specs.declared.kinds.TheConstants.{RTREE_INNER}
 use Rattle.tree_shape.specs.Shape.{level_size, numbers, children_at}

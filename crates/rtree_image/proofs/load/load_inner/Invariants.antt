@@ -1,5 +1,7 @@
 use Rattle.std.proofs.Common.{◌≡◌, ◌-◌, suc, map, length}
-use Rattle.page_codec.specs.Page.{page_of, row_width, AllOfWidth}
+use Rattle.page_codec.specs.Page.{row_width}
+use Rattle.page_codec.specs.Written.{page_of}
+use Rattle.page_codec.specs.Adding.{AllOfWidth}
 use Rattle.page_codec.specs.declared.kinds.TheConstants.{RTREE_INNER}
 use Rattle.tree_shape.specs.Shape.{numbers}
 use Rattle.rtree_image.specs.Image.{tree_of, child_row}

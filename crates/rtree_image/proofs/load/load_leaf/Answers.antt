@@ -1,6 +1,8 @@
 use Rattle.std.proofs.Common.{arith, lit≤, ◌≡◌, ◌-◌, ◌*◌, ◌≤◌, ◌++◌, ◌∷◌, [], ◌∙◌, sym, ap, subst, length, take, drop, map, length-take, length-drop, min, refl}
 use Rattle.std.proofs.lemmas.List.{length-map}
-use Rattle.page_codec.specs.Page.{row_width, kind_of, page_of, AllOfWidth, ShowsRows, IsKind}
+use Rattle.page_codec.specs.Page.{row_width, kind_of, ShowsRows}
+use Rattle.page_codec.specs.Written.{page_of}
+use Rattle.page_codec.specs.Adding.{AllOfWidth, IsKind}
 use Rattle.page_codec.specs.Laws.{ShowsRows-page_of}
 use Rattle.page_codec.specs.declared.kinds.TheConstants.{RTREE_LEAF}
 use Rattle.tree_shape.specs.Laws.Places.{page_within}

@@ -1,6 +1,6 @@
 use Rattle.std.proofs.Common.{◌≡◌, drop}
 use Rattle.space_map.specs.declared.space.TheConstants.{FIRST_DATA_PAGE}
-use Rattle.space_map.specs.Space.{AreApart}
+use Rattle.space_map.specs.Calls.{AreApart}
 use Rattle.space_map.proofs.Gaps.{gap_from}
 use Rattle.space_map.proofs.space.first_gap.Given as goal
 

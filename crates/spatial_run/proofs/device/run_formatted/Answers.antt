@@ -1,5 +1,5 @@
 use Rattle.std.proofs.Common.{ap, inl, inr, sym, subst, Ok, Err}
-use Rattle.script_lang.specs.Views.{phases_of}
+use Rattle.script_lang.specs.CommandViews.{phases_of}
 use Rattle.store_core.specs.Stores.{device_of}
 use Rattle.spatial_run.specs.Parts.{IsFreshEnd}
 use Rattle.spatial_run.specs.Views.{ending_of}

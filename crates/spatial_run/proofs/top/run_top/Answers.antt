@@ -1,22 +1,30 @@
 use Rattle.std.proofs.Common.{ap, sym, subst, map, Option, List, ℕ}
-use Rattle.store_machine.specs.Standing.{DeviceState}
+use Rattle.store_machine.specs.Devices.{DeviceState}
 use Rattle.store_core.specs.Stores.{device_of}
 use Rattle.spatial_run.specs.Tasks.{Task, task_of}
-use Rattle.spatial_run.specs.Endings.{IsCause}
-use Rattle.spatial_run.specs.Views.{ending_of}
+use Rattle.spatial_run.specs.ByEvents.{IsByEvents}
+use Rattle.spatial_run.specs.Endings.{IsCause, edges_of}
+use Rattle.spatial_run.specs.Views.{record_of, ending_of}
+use Rattle.spatial_run.proofs.Ends.{ended, ended-by-events}
 use Rattle.spatial_run.proofs.top.run_top.Goals as goal
 
 pub returns : goal.returns
 returns g c = record {
-  headline = record {
-    ending = ending_of c.run_task-run.result.ending;
-    sent = c.finish.ensures.finished.sent;
-    cause = subst (λ (d : DeviceState). IsCause (task_of (map (λ w. w.now) c.args.words.now)) (g.R.Source.fault_count c.args.script.now) (g.R.Source.fault_count c.run_task-run.new.source) (g.R.Source.left c.args.script.now) (device_of g.D.Device.pages g.D.Device.clock g.D.Device.fault_count g.D.Device.story c.args.device) d c.finish.result.acks.items (ending_of c.run_task-run.result.ending)) (sym (ap (device_of g.D.Device.pages g.D.Device.clock g.D.Device.fault_count g.D.Device.story) c.finish.ensures.device))
-        (subst (λ (a : List ℕ). IsCause (task_of (map (λ w. w.now) c.args.words.now)) (g.R.Source.fault_count c.args.script.now) (g.R.Source.fault_count c.run_task-run.new.source) (g.R.Source.left c.args.script.now) (device_of g.D.Device.pages g.D.Device.clock g.D.Device.fault_count g.D.Device.story c.args.device) (device_of g.D.Device.pages g.D.Device.clock g.D.Device.fault_count g.D.Device.story c.run_task-run.result.device) a (ending_of c.run_task-run.result.ending)) (sym (ap (λ l. l.items) c.finish.ensures.acks))
-        (subst (λ (t : Option Task). IsCause t (g.R.Source.fault_count c.args.script.now) (g.R.Source.fault_count c.run_task-run.new.source) (g.R.Source.left c.args.script.now) (device_of g.D.Device.pages g.D.Device.clock g.D.Device.fault_count g.D.Device.story c.args.device) (device_of g.D.Device.pages g.D.Device.clock g.D.Device.fault_count g.D.Device.story c.run_task-run.result.device) c.run_task-run.result.acks.items (ending_of c.run_task-run.result.ending)) c.task_of.ensures c.run_task-run.ensures.cause));
-    counts = c.finish.ensures.finished.counts;
-    told = c.finish.ensures.finished.told;
-    is_status = c.finish.ensures.finished.is_status;
-    outcomes = c.finish.ensures.finished.outcomes;
-  };
+  headline =
+      ended (task_of (map (λ w. w.now) c.args.words.now)) (edges_of g.R.Source.fault_count g.R.Source.left g.K.Sink.fault_count g.K.Sink.taken g.D.Device.pages g.D.Device.clock g.D.Device.fault_count g.D.Device.story c.args.script.now c.run_task-run.new.source c.args.out.now c.finish.new.out c.args.device c.finish.result.device)
+      c.finish.result.status c.finish.result.acks.items (record_of c.finish.result.outcomes) (ending_of c.run_task-run.result.ending)
+      (subst (λ (d : DeviceState). IsCause (task_of (map (λ w. w.now) c.args.words.now)) (g.R.Source.fault_count c.args.script.now) (g.R.Source.fault_count c.run_task-run.new.source) (g.R.Source.left c.args.script.now) (device_of g.D.Device.pages g.D.Device.clock g.D.Device.fault_count g.D.Device.story c.args.device) d c.finish.result.acks.items (ending_of c.run_task-run.result.ending)) (sym (ap (device_of g.D.Device.pages g.D.Device.clock g.D.Device.fault_count g.D.Device.story) c.finish.ensures.device))
+      (subst (λ (a : List ℕ). IsCause (task_of (map (λ w. w.now) c.args.words.now)) (g.R.Source.fault_count c.args.script.now) (g.R.Source.fault_count c.run_task-run.new.source) (g.R.Source.left c.args.script.now) (device_of g.D.Device.pages g.D.Device.clock g.D.Device.fault_count g.D.Device.story c.args.device) (device_of g.D.Device.pages g.D.Device.clock g.D.Device.fault_count g.D.Device.story c.run_task-run.result.device) a (ending_of c.run_task-run.result.ending)) (sym (ap (λ l. l.items) c.finish.ensures.acks))
+      (subst (λ (t : Option Task). IsCause t (g.R.Source.fault_count c.args.script.now) (g.R.Source.fault_count c.run_task-run.new.source) (g.R.Source.left c.args.script.now) (device_of g.D.Device.pages g.D.Device.clock g.D.Device.fault_count g.D.Device.story c.args.device) (device_of g.D.Device.pages g.D.Device.clock g.D.Device.fault_count g.D.Device.story c.run_task-run.result.device) c.run_task-run.result.acks.items (ending_of c.run_task-run.result.ending)) c.task_of.ensures c.run_task-run.ensures.cause)))
+      c.finish.ensures.finished;
+  events =
+      ended-by-events (task_of (map (λ w. w.now) c.args.words.now)) (edges_of g.R.Source.fault_count g.R.Source.left g.K.Sink.fault_count g.K.Sink.taken g.D.Device.pages g.D.Device.clock g.D.Device.fault_count g.D.Device.story c.args.script.now c.run_task-run.new.source c.args.out.now c.finish.new.out c.args.device c.finish.result.device)
+      c.finish.result.status c.finish.result.acks.items (record_of c.finish.result.outcomes) (ending_of c.run_task-run.result.ending)
+      (subst (λ (d : DeviceState). IsCause (task_of (map (λ w. w.now) c.args.words.now)) (g.R.Source.fault_count c.args.script.now) (g.R.Source.fault_count c.run_task-run.new.source) (g.R.Source.left c.args.script.now) (device_of g.D.Device.pages g.D.Device.clock g.D.Device.fault_count g.D.Device.story c.args.device) d c.finish.result.acks.items (ending_of c.run_task-run.result.ending)) (sym (ap (device_of g.D.Device.pages g.D.Device.clock g.D.Device.fault_count g.D.Device.story) c.finish.ensures.device))
+      (subst (λ (a : List ℕ). IsCause (task_of (map (λ w. w.now) c.args.words.now)) (g.R.Source.fault_count c.args.script.now) (g.R.Source.fault_count c.run_task-run.new.source) (g.R.Source.left c.args.script.now) (device_of g.D.Device.pages g.D.Device.clock g.D.Device.fault_count g.D.Device.story c.args.device) (device_of g.D.Device.pages g.D.Device.clock g.D.Device.fault_count g.D.Device.story c.run_task-run.result.device) a (ending_of c.run_task-run.result.ending)) (sym (ap (λ l. l.items) c.finish.ensures.acks))
+      (subst (λ (t : Option Task). IsCause t (g.R.Source.fault_count c.args.script.now) (g.R.Source.fault_count c.run_task-run.new.source) (g.R.Source.left c.args.script.now) (device_of g.D.Device.pages g.D.Device.clock g.D.Device.fault_count g.D.Device.story c.args.device) (device_of g.D.Device.pages g.D.Device.clock g.D.Device.fault_count g.D.Device.story c.run_task-run.result.device) c.run_task-run.result.acks.items (ending_of c.run_task-run.result.ending)) c.task_of.ensures c.run_task-run.ensures.cause)))
+      c.finish.ensures.finished
+      (subst (λ (d : DeviceState). IsByEvents (task_of (map (λ w. w.now) c.args.words.now)) (device_of g.D.Device.pages g.D.Device.clock g.D.Device.fault_count g.D.Device.story c.args.device) d c.finish.result.acks.items (ending_of c.run_task-run.result.ending)) (sym (ap (device_of g.D.Device.pages g.D.Device.clock g.D.Device.fault_count g.D.Device.story) c.finish.ensures.device))
+      (subst (λ (a : List ℕ). IsByEvents (task_of (map (λ w. w.now) c.args.words.now)) (device_of g.D.Device.pages g.D.Device.clock g.D.Device.fault_count g.D.Device.story c.args.device) (device_of g.D.Device.pages g.D.Device.clock g.D.Device.fault_count g.D.Device.story c.run_task-run.result.device) a (ending_of c.run_task-run.result.ending)) (sym (ap (λ l. l.items) c.finish.ensures.acks))
+      (subst (λ (t : Option Task). IsByEvents t (device_of g.D.Device.pages g.D.Device.clock g.D.Device.fault_count g.D.Device.story c.args.device) (device_of g.D.Device.pages g.D.Device.clock g.D.Device.fault_count g.D.Device.story c.run_task-run.result.device) c.run_task-run.result.acks.items (ending_of c.run_task-run.result.ending)) c.task_of.ensures c.run_task-run.ensures.events)));
 }

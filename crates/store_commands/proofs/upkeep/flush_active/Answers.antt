@@ -24,7 +24,7 @@ returns-in-Ok-false-clause-serving g c =
     serving-after (state_of g.D.Device.pages g.D.Device.clock g.D.Device.fault_count g.D.Device.story c.args.store.now) (state_of g.D.Device.pages g.D.Device.clock g.D.Device.fault_count g.D.Device.story c.freeze.new.self) c.args.owner (action.Freeze c.args.least (Ok false)) c.requires.serving (frozen-as (state_of g.D.Device.pages g.D.Device.clock g.D.Device.fault_count g.D.Device.story c.args.store.now) (state_of g.D.Device.pages g.D.Device.clock g.D.Device.fault_count g.D.Device.story c.freeze.new.self) c.args.owner c.args.least c.in-Ok-false.field-0 false (search rules) c.in-Ok-false.ensures.event) c.in-Ok-false.ensures.ready (freeze-keeps c.args.least (Ok false))
 
 pub returns-in-Ok-false-clause-upkeep : goal.returns-in-Ok-false-clause-upkeep
-returns-in-Ok-false-clause-upkeep g c = keeps-one (state_of g.D.Device.pages g.D.Device.clock g.D.Device.fault_count g.D.Device.story c.args.store.now) (state_of g.D.Device.pages g.D.Device.clock g.D.Device.fault_count g.D.Device.story c.freeze.new.self) c.args.owner (action.Freeze c.args.least (Ok false)) (frozen-as (state_of g.D.Device.pages g.D.Device.clock g.D.Device.fault_count g.D.Device.story c.args.store.now) (state_of g.D.Device.pages g.D.Device.clock g.D.Device.fault_count g.D.Device.story c.freeze.new.self) c.args.owner c.args.least c.in-Ok-false.field-0 false (search rules) c.in-Ok-false.ensures.event) refl
+returns-in-Ok-false-clause-upkeep g c = keeps-one (state_of g.D.Device.pages g.D.Device.clock g.D.Device.fault_count g.D.Device.story c.args.store.now) (state_of g.D.Device.pages g.D.Device.clock g.D.Device.fault_count g.D.Device.story c.freeze.new.self) c.args.owner (action.Freeze c.args.least (Ok false)) (frozen-as (state_of g.D.Device.pages g.D.Device.clock g.D.Device.fault_count g.D.Device.story c.args.store.now) (state_of g.D.Device.pages g.D.Device.clock g.D.Device.fault_count g.D.Device.story c.freeze.new.self) c.args.owner c.args.least c.in-Ok-false.field-0 false (search rules) c.in-Ok-false.ensures.event) refl refl
 
 pub returns-in-Ok-false-clause-flushed : goal.returns-in-Ok-false-clause-flushed
 returns-in-Ok-false-clause-flushed g c = freeze-none (state_of g.D.Device.pages g.D.Device.clock g.D.Device.fault_count g.D.Device.story c.args.store.now) (state_of g.D.Device.pages g.D.Device.clock g.D.Device.fault_count g.D.Device.story c.freeze.new.self) c.args.owner c.args.least c.requires.serving.standing c.requires.none_waits (frozen-as (state_of g.D.Device.pages g.D.Device.clock g.D.Device.fault_count g.D.Device.story c.args.store.now) (state_of g.D.Device.pages g.D.Device.clock g.D.Device.fault_count g.D.Device.story c.freeze.new.self) c.args.owner c.args.least c.in-Ok-false.field-0 false (search rules) c.in-Ok-false.ensures.event)

@@ -24,7 +24,7 @@ returns-in-Ok-None-clause-serving g c =
     serving-after (state_of g.D.Device.pages g.D.Device.clock g.D.Device.fault_count g.D.Device.story c.args.store.now) (state_of g.D.Device.pages g.D.Device.clock g.D.Device.fault_count g.D.Device.story c.begin_job.new.self) c.args.owner (action.Begin (Ok None)) c.requires.serving (begun (state_of g.D.Device.pages g.D.Device.clock g.D.Device.fault_count g.D.Device.story c.args.store.now) (state_of g.D.Device.pages g.D.Device.clock g.D.Device.fault_count g.D.Device.story c.begin_job.new.self) c.args.owner c.in-Ok-None.field-0 None (search rules) c.in-Ok-None.ensures.event) c.in-Ok-None.ensures.ready (λ m. refl)
 
 pub returns-in-Ok-None-clause-upkeep : goal.returns-in-Ok-None-clause-upkeep
-returns-in-Ok-None-clause-upkeep g c = keeps-one (state_of g.D.Device.pages g.D.Device.clock g.D.Device.fault_count g.D.Device.story c.args.store.now) (state_of g.D.Device.pages g.D.Device.clock g.D.Device.fault_count g.D.Device.story c.begin_job.new.self) c.args.owner (action.Begin (Ok None)) (begun (state_of g.D.Device.pages g.D.Device.clock g.D.Device.fault_count g.D.Device.story c.args.store.now) (state_of g.D.Device.pages g.D.Device.clock g.D.Device.fault_count g.D.Device.story c.begin_job.new.self) c.args.owner c.in-Ok-None.field-0 None (search rules) c.in-Ok-None.ensures.event) refl
+returns-in-Ok-None-clause-upkeep g c = keeps-one (state_of g.D.Device.pages g.D.Device.clock g.D.Device.fault_count g.D.Device.story c.args.store.now) (state_of g.D.Device.pages g.D.Device.clock g.D.Device.fault_count g.D.Device.story c.begin_job.new.self) c.args.owner (action.Begin (Ok None)) (begun (state_of g.D.Device.pages g.D.Device.clock g.D.Device.fault_count g.D.Device.story c.args.store.now) (state_of g.D.Device.pages g.D.Device.clock g.D.Device.fault_count g.D.Device.story c.begin_job.new.self) c.args.owner c.in-Ok-None.field-0 None (search rules) c.in-Ok-None.ensures.event) refl refl
 
 pub returns-in-Ok-None-clause-flushed : goal.returns-in-Ok-None-clause-flushed
 returns-in-Ok-None-clause-flushed g c = begin-none (state_of g.D.Device.pages g.D.Device.clock g.D.Device.fault_count g.D.Device.story c.args.store.now) (state_of g.D.Device.pages g.D.Device.clock g.D.Device.fault_count g.D.Device.story c.begin_job.new.self) c.args.owner c.requires.serving.standing (begun (state_of g.D.Device.pages g.D.Device.clock g.D.Device.fault_count g.D.Device.story c.args.store.now) (state_of g.D.Device.pages g.D.Device.clock g.D.Device.fault_count g.D.Device.story c.begin_job.new.self) c.args.owner c.in-Ok-None.field-0 None (search rules) c.in-Ok-None.ensures.event)

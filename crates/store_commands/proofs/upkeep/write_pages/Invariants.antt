@@ -1,8 +1,8 @@
 use Rattle.std.proofs.Common.{◌≡◌, Ok}
-use Rattle.build_job.specs.Jobs.{steps_left}
-use Rattle.store_state.specs.Lists.{IsJobOf}
+use Rattle.build_job.specs.Steps.{steps_left}
+use Rattle.store_state.specs.OwnJob.{IsJobOf}
 use Rattle.store_core.specs.Stores.{state_of}
-use Rattle.store_machine.specs.Standing.{IsReady, IsStanding}
+use Rattle.store_machine.specs.Calls.{IsReady, IsStanding}
 use Rattle.store_commands.specs.Upkeep.{KeepsUp}
 use Rattle.store_commands.proofs.upkeep.write_pages.Given as goal
 

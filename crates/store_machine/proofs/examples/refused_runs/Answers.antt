@@ -1,25 +1,21 @@
 use Rattle.std.proofs.Common.{◌≡◌, ℕ, zero, suc, ◌<◌, true, List, [], ◌∷◌, ◌++◌, length, get_or, Option, Some, None, refl, sym, ◌∙◌, ap, arith}
-use Rattle.std.specs.Option.{option_map}
 use Rattle.dev_model.specs.declared.calls.DeviceCall.{DeviceCall}
-use Rattle.tree_shape.specs.Asked.{given}
-use Rattle.tree_shape.specs.Shape.{IsRoot, level_size}
-use Rattle.device_pages.specs.Asked.{reads_made}
+use Rattle.tree_shape.specs.Given.{given}
+use Rattle.tree_shape.specs.Shape.{IsRoot, level_size, level_start}
+use Rattle.device_pages.specs.ReadsMade.{reads_made}
 use Rattle.geo_base.specs.declared.points.Row.{Row}
 use Rattle.order_merge.specs.Adding.{with_entry}
-use Rattle.order_merge.specs.Entries.{Fits, entry_at, newest_at}
-use Rattle.order_merge.specs.Views.{lists_of}
+use Rattle.order_merge.specs.Entries.{entry_at, newest_at}
 use Rattle.btree_image.specs.Descent.{descent}
 use Rattle.btree_image.specs.Image.{shape_of}
 use Rattle.primary_ix.specs.Components.{AreRoots}
 use Rattle.primary_ix.specs.Lookups.{lookup_pages}
-use Rattle.primary_ix.specs.Rows.{prim_layout, prim_reading}
-use Rattle.primary_ix.specs.Wanted.{matter_row, wanted_rows}
+use Rattle.primary_ix.specs.Rows.{prim_layout}
 use Rattle.primary_ix.specs.declared.component.PrimComp.{PrimComp}
-use Rattle.primary_ix.specs.declared.rows.PrimRow.{PrimRow}
 use Rattle.store_state.specs.Lists.{trees_of}
 use Rattle.store_machine.specs.Machine.{Machine, at_opening, after_event, after_all}
 use Rattle.store_machine.specs.Runs.{AreReads, IsAllOf, IsRun, StopsBefore, way_to}
-use Rattle.store_machine.specs.Examples.{flushed, got, page_read, put_over, put_seven, seven, start, unplaced_flush}
+use Rattle.store_machine.specs.Examples.{flushed, got, page_read, put_over, put_seven, seven, start, two_components, unplaced_flush}
 use Rattle.store_machine.specs.declared.events.Event.{Event}
 use Rattle.store_machine.proofs.ExampleTables.{row_there}
 use Rattle.store_machine.proofs.examples.refused_runs.Goals as goal
@@ -70,16 +66,11 @@ none_made : (clock : ℕ) (pages : List ℕ) → [] ≡ reads_made clock (given 
 none_made clock [] is = refl
 none_made clock (page ∷ pages) is = absurd (let no : ◌≡◌ {A = List DeviceCall} [] (_ ∷ _) = is in cc)
 
-some_there : ◌≡◌ {A = Option PrimRow} None (Some (matter_row seven)) → ⊥
-some_there is = cc
-
 unread_row : AreReads after_flush (way_to 7) IsAllOf [] → ⊥
-unfolding with_entry lookup_pages newest_at entry_at descent
-unread_row reads = by_disk reads.disk reads.fits (reads.part (0 ∷ []) root_zero)
-  where
-    by_disk : (disk : List (List PrimRow)) → Fits prim_reading (lists_of [] None disk) (wanted_rows after_flush.table) → reads.pages ≡ way_to 7 after_flush.lists disk (0 ∷ []) → ⊥
-    by_disk [] fits part = some_there (fits 7 ∙ ap (λ (row : Option Row). option_map matter_row row) row_there)
-    by_disk (list ∷ disk) fits part = not_empty [] _ _ (sym part ∙ none_made after_flush.clock reads.pages reads.are)
+unfolding with_entry lookup_pages newest_at entry_at descent level_size level_start
+unread_row reads =
+    let part : reads.pages ≡ 265 ∷ [] = reads.part (0 ∷ []) root_zero in
+    not_empty [] _ _ (sym part ∙ none_made after_flush.clock reads.pages reads.are)
 
 pub returns-clause-component_unread : goal.returns-clause-component_unread
 returns-clause-component_unread c run = unread_row ((behind (at_opening start) (put_seven ∷ unplaced_flush) (got 1 (Some seven) [] 33 ∷ []) run).0.calls refl)
@@ -96,3 +87,25 @@ read_over reads =
 
 pub returns-clause-component_read_for_a_row_in_memory : goal.returns-clause-component_read_for_a_row_in_memory
 returns-clause-component_read_for_a_row_in_memory c run = read_over ((behind (at_opening start) (flushed ++ put_over ∷ []) (got 3 (Some seven) (page_read 39 1085440) 40 ∷ []) run).0.calls refl)
+
+abbrev two : Machine
+two = at_opening two_components
+
+two_zeros : AreRoots (trees_of two.lists.components) (0 ∷ 0 ∷ [])
+unfolding level_size
+two_zeros = record { count = refl; each = each }
+  where
+    each : (i : ℕ) (comp : PrimComp) (root : ℕ) → i < length (trees_of two.lists.components) → IsRoot (shape_of prim_layout (get_or (trees_of two.lists.components) i comp).tree.rows) (get_or (0 ∷ 0 ∷ []) i root)
+    each zero comp root lt = record { alone = refl; lowest = λ below less. absurd (omega (arith, less)) }
+    each (suc zero) comp root lt = record { alone = refl; lowest = λ below less. absurd (omega (arith, less)) }
+    each (suc (suc i)) comp root lt = absurd (omega (arith, lt))
+
+read_one : AreReads two (way_to 7) IsAllOf (page_read 20 1089536) → ⊥
+unfolding lookup_pages newest_at entry_at descent level_size level_start
+read_one reads =
+    let part : reads.pages ≡ 266 ∷ 265 ∷ [] = reads.part (0 ∷ 0 ∷ []) two_zeros in
+    let count : 1 ≡ 2 = ap (λ (calls : List DeviceCall). length calls) (reads.are ∙ ap (λ (pages : List ℕ). reads_made two.clock (given pages)) part) in
+    omega (arith, count)
+
+pub returns-clause-pages_of_other_lists : goal.returns-clause-pages_of_other_lists
+returns-clause-pages_of_other_lists c run = read_one (run.0.calls refl)

@@ -1,31 +1,30 @@
-use Rattle.std.proofs.Common.{◌≡◌, inl, ℕ, zero, suc, ◌+◌, Bool, false, true, List, length, [], ◌∷◌, None, Some, Ok, IsTrue, refl, sym, ◌∙◌, ap, subst, arith}
+use Rattle.std.proofs.Common.{◌≡◌, inl, ℕ, zero, suc, ◌+◌, Bool, false, true, List, length, [], ◌∷◌, ◌++◌, None, Some, Ok, IsTrue, refl, sym, ◌∙◌, ap, subst, arith}
 use Rattle.std.proofs.lemmas.List.Elements.{All-nil, All-cons}
 use Rattle.dev_model.specs.DeviceCalls.{made_at}
 use Rattle.dev_model.specs.declared.calls.DeviceCall.{DeviceCall}
 use Rattle.dev_model.specs.declared.calls.DeviceAct.TheVariants.{WriteAt, SyncAll}
 use Rattle.device_pages.specs.Lending.{is_lent}
 use Rattle.order_merge.specs.Adding.{with_entry}
-use Rattle.order_merge.specs.Entries.{Fits, entry_at, newest_at}
-use Rattle.order_merge.specs.Views.{lists_of}
+use Rattle.order_merge.specs.Entries.{entry_at, newest_at}
 use Rattle.tree_shape.specs.Shape.{IsRoot, level_size, level_start}
 use Rattle.btree_image.specs.Descent.{descent}
 use Rattle.primary_ix.specs.Components.{AreRoots}
 use Rattle.primary_ix.specs.Lookups.{lookup_pages}
-use Rattle.primary_ix.specs.Wanted.{wanted_rows}
+use Rattle.primary_ix.specs.declared.component.PrimComp.{PrimComp}
 use Rattle.wal_log.specs.Headers.{header_bytes}
 use Rattle.comp_dir.specs.Parts.{HasPages}
 use Rattle.comp_dir.specs.Slots.{slot_bytes}
 use Rattle.btree_image.specs.Image.{shape_of}
-use Rattle.primary_ix.specs.Rows.{prim_layout, prim_reading}
+use Rattle.primary_ix.specs.Rows.{prim_layout}
 use Rattle.store_state.specs.Lists.{extents_of, frozen_rows, trees_of}
 use Rattle.store_machine.specs.declared.events.Action.{Action}
 use Rattle.store_machine.specs.declared.events.Action.TheVariants.{Freeze}
-use Rattle.store_machine.specs.Machine.{Machine, at_opening, after_event, after_all}
+use Rattle.store_machine.specs.Machine.{Machine, at_opening, after_event, after_all, row_of}
 use Rattle.store_machine.specs.Needs.{Needs}
 use Rattle.store_machine.specs.Runs.{Acknowledges, Allows, AreReads, IsAllOf, IsWriteBehindReads, IsOwned, IsRun, MakesCalls, Stops, TakesTime, is_fault, log_calls, way_to}
-use Rattle.store_machine.specs.Examples.{start, seven, put_seven, got, del_seven, counted, failed_put, refused_put, page_read, looked, frozen, begun, page_written, installed, gated_write, flushed, idle, event}
+use Rattle.store_machine.specs.Examples.{start, seven, put_seven, got, del_seven, counted, failed_put, refused_put, page_read, looked, frozen, job, begun, page_written, installed, gated_write, flushed, idle, event, two_components}
 use Rattle.store_machine.specs.declared.events.Refusal.TheVariants.{Stopped}
-use Rattle.store_machine.proofs.ExampleTables.{active_seven_fits, nothing_there, no_rows_again, no_rows_fit, placed_seven_fits, row_seven, row_there, seven_there}
+use Rattle.store_machine.proofs.ExampleTables.{nothing_there, no_rows_again, row_beside, row_there, seven_there}
 use Rattle.store_machine.proofs.examples.worked_runs.Goals as goal
 
 -- an event in which the device never failed
@@ -57,27 +56,25 @@ abbrev after_del : Machine
 after_del = after_event after_get del_seven
 
 -- where there is no component, or a list in memory has the key, no page is read
-none_read : (m : Machine) → Fits prim_reading (lists_of m.lists.active m.lists.frozen []) (wanted_rows m.table) → ((roots : List ℕ) → [] ≡ way_to 7 m.lists [] roots) → AreReads m (way_to 7) IsAllOf []
-none_read m fits none = record {
+none_read : (m : Machine) → ((roots : List ℕ) → [] ≡ way_to 7 m.lists m.disk roots) → AreReads m (way_to 7) IsAllOf []
+none_read m none = record {
   pages = [];
   lent = All-nil (λ page. IsTrue (is_lent (extents_of m.lists.components) page));
   are = refl;
-  disk = [];
-  fits = fits;
   part = λ roots are. none roots;
 }
 
 opened_read : AreReads opened (way_to 7) IsAllOf []
 unfolding lookup_pages newest_at entry_at
-opened_read = none_read opened no_rows_fit (λ roots. refl)
+opened_read = none_read opened (λ roots. refl)
 
 put_read : AreReads after_put (way_to 7) IsAllOf []
 unfolding with_entry newest_at entry_at
-put_read = none_read after_put active_seven_fits (λ roots. refl)
+put_read = none_read after_put (λ roots. refl)
 
 get_read : AreReads after_get (way_to 7) IsAllOf []
 unfolding with_entry newest_at entry_at
-get_read = none_read after_get active_seven_fits (λ roots. refl)
+get_read = none_read after_get (λ roots. refl)
 
 -- a write whose row wasn't looked for on the device
 logs : (m : Machine) → AreReads m (way_to 7) IsAllOf [] → IsWriteBehindReads m 7 (log_calls m.log m.clock)
@@ -167,6 +164,7 @@ unfolding with_entry level_size level_start
 one_page = record { root = 0; is_root = record { alone = refl; lowest = λ below lt. omega (arith, lt) }; counts = refl }
 
 begins : Allows true after_freeze (begun 28)
+unfolding with_entry
 begins = allows after_freeze _ _ _ (
   refl,
   record {
@@ -185,11 +183,12 @@ begins = allows after_freeze _ _ _ (
 ) refl refl tt refl refl refl (omega arith)
 
 writes_page : Allows true after_begin (page_written 1)
-writes_page = allows after_begin _ _ _ (refl, record { job = refl; left = omega arith }) refl refl tt refl refl refl (omega arith)
+unfolding with_entry
+writes_page = allows after_begin _ _ _ (refl, record { begun = record { row = row_of (job 0); is = refl; owned = refl; same = refl }; left = omega arith }) refl refl tt refl refl refl (omega arith)
 
 installs : Allows true after_page (installed 1 (gated_write 29 4096 63))
 unfolding with_entry slot_bytes
-installs = allows after_page _ _ _ (refl, record { job = refl; none_left = refl }) refl refl tt refl refl refl (omega arith)
+installs = allows after_page _ _ _ (refl, record { begun = record { row = row_of (job 1); is = refl; owned = refl; same = refl }; none_left = refl }) refl refl tt refl refl refl (omega arith)
 
 looks_placed : Allows true after_install (looked 0 1 33)
 looks_placed = allows after_install _ _ _ (record { ops = refl; frozen = refl; lanes = refl; placed = refl; lsn = refl }) tt refl tt refl refl refl (omega arith)
@@ -200,7 +199,7 @@ unfolding level_size
 root_is zero is = refl
 root_is (suc n) is = absurd (omega (arith, is.lowest 0 (omega arith)))
 
-on_way : 265 ∷ [] ≡ way_to 7 after_placed.lists ((row_seven ∷ []) ∷ []) (0 ∷ [])
+on_way : 265 ∷ [] ≡ way_to 7 after_placed.lists after_placed.disk (0 ∷ [])
 unfolding with_entry lookup_pages descent newest_at entry_at level_size level_start
 on_way = refl
 
@@ -218,9 +217,7 @@ reads_page = record {
   pages = 265 ∷ [];
   lent = All-cons (λ page. IsTrue (is_lent (extents_of after_placed.lists.components) page)) 265 [] refl (All-nil (λ page. IsTrue (is_lent (extents_of after_placed.lists.components) page)));
   are = refl;
-  disk = (row_seven ∷ []) ∷ [];
-  fits = placed_seven_fits;
-  part = λ roots are. subst (λ (rs : List ℕ). 265 ∷ [] ≡ way_to 7 after_placed.lists ((row_seven ∷ []) ∷ []) rs) (sym (root_zero roots are)) on_way;
+  part = λ roots are. subst (λ (rs : List ℕ). 265 ∷ [] ≡ way_to 7 after_placed.lists after_placed.disk rs) (sym (root_zero roots are)) on_way;
 }
 
 reads : Allows true after_placed (got 1 (Some seven) (page_read 33 1085440) 34)
@@ -237,3 +234,35 @@ idles m going none_logged none_waits faults time = (
 
 pub returns-clause-idle : goal.returns-clause-idle
 returns-clause-idle c = idles (after_all (at_opening start) flushed) refl refl refl refl (omega arith)
+
+abbrev two : Machine
+two = at_opening two_components
+
+root_zeros : (roots : List ℕ) → AreRoots (trees_of two.lists.components) roots → roots ≡ 0 ∷ 0 ∷ []
+root_zeros [] is = absurd (omega (arith, is.count))
+root_zeros (root ∷ []) is = absurd (omega (arith, is.count))
+root_zeros (root ∷ other ∷ []) is =
+    let none : PrimComp = record { tree = record { first = 0; rows = 0 } } in
+    let one : root ≡ 0 = root_is root (is.each 0 none 0 (omega arith)) in
+    let two : other ≡ 0 = root_is other (is.each 1 none 0 (omega arith)) in
+    λ i. one i ∷ two i ∷ []
+root_zeros (root ∷ other ∷ third ∷ more) is = absurd (omega (arith, is.count))
+
+on_both : 266 ∷ 265 ∷ [] ≡ way_to 7 two.lists two.disk (0 ∷ 0 ∷ [])
+unfolding lookup_pages descent newest_at entry_at level_size level_start
+on_both = refl
+
+reads_both : AreReads two (way_to 7) IsAllOf (page_read 20 1089536 ++ page_read 21 1085440)
+reads_both = record {
+  pages = 266 ∷ 265 ∷ [];
+  lent = All-cons (λ page. IsTrue (is_lent (extents_of two.lists.components) page)) 266 (265 ∷ []) refl
+      (All-cons (λ page. IsTrue (is_lent (extents_of two.lists.components) page)) 265 [] refl (All-nil (λ page. IsTrue (is_lent (extents_of two.lists.components) page))));
+  are = refl;
+  part = λ roots are. subst (λ (rs : List ℕ). 266 ∷ 265 ∷ [] ≡ way_to 7 two.lists two.disk rs) (sym (root_zeros roots are)) on_both;
+}
+
+gets_older : Allows true two (got 0 (Some seven) (page_read 20 1089536 ++ page_read 21 1085440) 22)
+gets_older = allows two _ _ _ (record { seq = refl; row = λ _. sym row_beside }) tt reads_both tt refl refl refl (omega arith)
+
+pub returns-clause-both_components : goal.returns-clause-both_components
+returns-clause-both_components c = (gets_older, tt)

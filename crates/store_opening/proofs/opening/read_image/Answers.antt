@@ -1,12 +1,13 @@
 use Rattle.std.proofs.Common.{◌∙◌, ◌<◌, ◌∷◌, [], ℕ, All, ap, subst, sym}
 use Rattle.dev_model.specs.Story.{bytes_of, WhereTold}
 use Rattle.wal_log.specs.Found.{WhereBad}
-use Rattle.wal_log.specs.Rules.{Opens as LogOpens, IsBad}
+use Rattle.wal_log.specs.Rules.{Opens as LogOpens}
+use Rattle.wal_log.specs.Bad.{IsBad}
 use Rattle.wal_log.specs.Segments.{segments_of}
 use Rattle.wal_log.specs.State.{IsStill}
 use Rattle.wal_log.specs.declared.places.TheConstants.{LSN_LIMIT}
 use Rattle.image_model.specs.declared.places.TheConstants.{LOG_START}
-use Rattle.comp_dir.specs.State.{IsAtRest}
+use Rattle.comp_dir.specs.Resting.{IsAtRest}
 use Rattle.store_state.specs.Lists.{placed_up_to}
 use Rattle.store_opening.specs.Openings.{IsRefusal}
 use Rattle.store_opening.specs.Read.{HasSlots, IsDirectoryRefusal}

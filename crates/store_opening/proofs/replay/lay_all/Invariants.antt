@@ -1,6 +1,7 @@
 use Rattle.std.proofs.Common.{◌≡◌, take}
-use Rattle.wal_log.specs.Later.{later, up_to}
-use Rattle.store_state.specs.Lists.{IsLists}
+use Rattle.wal_log.specs.Later.{later}
+use Rattle.wal_log.specs.UpTo.{up_to}
+use Rattle.store_state.specs.EveryList.{IsLists}
 use Rattle.store_opening.specs.Restored.{with_records}
 use Rattle.store_opening.proofs.replay.lay_all.Given as goal
 

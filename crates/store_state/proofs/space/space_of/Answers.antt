@@ -1,6 +1,7 @@
 use Rattle.std.proofs.Common.{ℕ, ◌||◌, All, sym, ◌∙◌, ap, subst}
 use Rattle.space_map.specs.Space.{Space, is_reserved}
-use Rattle.store_state.specs.Lists.{extents_of, IsOpenSlot}
+use Rattle.store_state.specs.Lists.{extents_of}
+use Rattle.store_state.specs.EveryList.{IsOpenSlot}
 use Rattle.store_state.proofs.Apart.{front-apart, back-apart, cross}
 use Rattle.store_state.proofs.Lent.{All-front, All-back}
 use Rattle.store_state.proofs.space.space_of.Goals as goal

@@ -1,5 +1,6 @@
 use Rattle.std.proofs.Common.{◌≡◌, ℕ, ◌||◌, take}
-use Rattle.space_map.specs.Space.{IsSpace, is_reserved}
+use Rattle.space_map.specs.Space.{is_reserved}
+use Rattle.space_map.specs.Calls.{IsSpace}
 use Rattle.store_state.specs.Lists.{extents_of}
 use Rattle.store_state.proofs.space.take_all.Given as goal
 

@@ -1,6 +1,6 @@
 use Rattle.std.proofs.Common.{◌≡◌, ◌≤◌, ◌⊎◌, ◌+◌, ◌^◌}
 use Rattle.dev_model.specs.Story.{WhereTold, bytes_of}
-use Rattle.wal_log.specs.Places.{ReadsLog}
+use Rattle.wal_log.specs.Reads.{ReadsLog}
 use Rattle.wal_log.specs.Found.{HasReadSome, HoldsPlaces, IsOpenStill}
 use Rattle.wal_log.proofs.reading.read_records.Given as goal
 

@@ -3,7 +3,7 @@ use Rattle.dev_model.specs.Story.{bytes_of}
 use Rattle.dev_model.specs.Laws.Reads.{ReadsWithin-then}
 use Rattle.wal_log.specs.Places.{IsInLog}
 use Rattle.wal_log.specs.Segments.{segments_of}
-use Rattle.wal_log.specs.Rules.{IsBad}
+use Rattle.wal_log.specs.Bad.{IsBad}
 use Rattle.wal_log.specs.Walk.{HasReadSegment, IsUnsound}
 use Rattle.wal_log.proofs.Walking.{counted-end, ends-behind, told-back-open, head-still, walked-unsound, walked-more, walked-all, walked-elsewhere, walked-records, opens, is_bad, is_bad-empty, all_records, WhereBad-map, newest-there}
 use Rattle.wal_log.proofs.walk.read_segments.Goals as goal

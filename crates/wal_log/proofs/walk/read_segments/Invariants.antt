@@ -1,7 +1,7 @@
 use Rattle.std.proofs.Common.{◌≡◌, ◌≤◌, ◌<◌, ◌⊎◌, length}
 use Rattle.dev_model.specs.Story.{WhereTold, bytes_of}
 use Rattle.wal_log.specs.State.{IsStill}
-use Rattle.wal_log.specs.Places.{ReadsLog}
+use Rattle.wal_log.specs.Reads.{ReadsLog}
 use Rattle.wal_log.specs.Heads.{open_heads}
 use Rattle.wal_log.proofs.Walking.{Walked}
 use Rattle.wal_log.specs.Walk.{HasEndedBefore}

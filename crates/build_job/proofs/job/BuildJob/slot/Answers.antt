@@ -1,5 +1,5 @@
 use Rattle.std.proofs.Common.{rules, subst}
-use Rattle.build_job.specs.Jobs.{IsJob}
+use Rattle.build_job.specs.Steps.{IsJob}
 use Rattle.build_job.specs.Laws.Describing.{described-IsSound, same_slot}
 use Rattle.build_job.proofs.job.BuildJob.slot.Goals as goal
 

@@ -2,7 +2,8 @@ use Rattle.std.proofs.Common.{◌≡◌, ℕ, ◌-◌, Bool, ◌&&◌, not, List
 use Rattle.std.specs.List.{Contains}
 use Rattle.space_map.specs.declared.space.Extent.{Extent}
 use Rattle.space_map.specs.declared.space.TheConstants.{FIRST_DATA_PAGE}
-use Rattle.space_map.specs.Space.{Space, end_of, is_in, is_reserved, AreApart, IsFreeRun, without_extent, released_from}
+use Rattle.space_map.specs.Space.{Space, end_of, is_in, is_reserved, IsFreeRun}
+use Rattle.space_map.specs.Calls.{AreApart, without_extent, released_from}
 use Rattle.space_map.proofs.Extents.{taken_list, apart-without_extent, is_reserved-without_extent, joined}
 use Rattle.space_map.proofs.space.SpaceMap.release.Goals as goal
 

@@ -1,7 +1,7 @@
 use Rattle.std.proofs.Common.{◌<◌, refl, ⊎_elim}
 use Rattle.std.proofs.lemmas.Bool.{cases_lt}
 use Rattle.space_map.specs.declared.space.TheConstants.{FIRST_DATA_PAGE}
-use Rattle.space_map.specs.Space.{reserved_end}
+use Rattle.space_map.specs.Calls.{reserved_end}
 use Rattle.space_map.proofs.Gaps.{shorter}
 use Rattle.space_map.proofs.Near.{first_fit-near, free-at_end}
 use Rattle.space_map.proofs.space.SpaceMap.reserve.Goals as goal

@@ -1,7 +1,8 @@
 use Rattle.std.proofs.Common.{List, sym, ◌∙◌, ap, subst}
 use Rattle.space_map.specs.declared.space.Extent.{Extent}
 use Rattle.space_map.specs.declared.space.TheConstants.{FIRST_DATA_PAGE}
-use Rattle.space_map.specs.Space.{Space, AreApart, IsFreeRun, reserved_with}
+use Rattle.space_map.specs.Space.{Space, IsFreeRun, reserved_with}
+use Rattle.space_map.specs.Calls.{AreApart}
 use Rattle.space_map.proofs.Extents.{placed_list, apart-with_extent}
 use Rattle.space_map.proofs.space.SpaceMap.take.Goals as goal
 

@@ -1,5 +1,6 @@
 use Rattle.std.proofs.Common.{Err, sym, subst}
-use Rattle.store_machine.specs.Standing.{StoreState, Makes}
+use Rattle.store_machine.specs.Calls.{Makes}
+use Rattle.store_machine.specs.Standing.{StoreState}
 use Rattle.store_machine.specs.declared.events.Action.TheVariants.{Begin}
 use Rattle.store_machine.specs.declared.events.Refusal.{Refusal}
 use Rattle.store_core.specs.Stores.{state_of}
@@ -16,7 +17,7 @@ returns-in-Ok-clause-event g c =
     began old c.begin.new.self.0 c.args.owner c.in-Ok.job c.in_default.is c.in-Ok.ensures.begins
     (record {
       kept = λ table s row kept fresh. c.begun_job_is_kept.ensures.kept old.device.pages old.log table old.lists s row kept fresh;
-      legible = λ table s row legible. c.begun_job_is_kept.ensures.legible table old.lists s row legible;
+      legible = λ table disk s row legible. c.begun_job_is_kept.ensures.legible table disk old.lists s row legible;
     })
 
 pub returns-in-Err-clause-event : goal.returns-in-Err-clause-event

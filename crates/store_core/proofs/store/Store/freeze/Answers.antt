@@ -1,5 +1,7 @@
 use Rattle.std.proofs.Common.{inl, inr, ◌∙◌, Err, ap, sym, subst, arith}
-use Rattle.store_machine.specs.Standing.{StoreState, Makes, DeviceState}
+use Rattle.store_machine.specs.Calls.{Makes}
+use Rattle.store_machine.specs.Standing.{StoreState}
+use Rattle.store_machine.specs.Devices.{DeviceState}
 use Rattle.store_machine.specs.declared.events.Action.TheVariants.{Freeze}
 use Rattle.store_machine.specs.declared.events.Refusal.{Refusal}
 use Rattle.store_state.specs.Lists.{Lists}
@@ -40,7 +42,7 @@ returns-in-Ok-clause-event g c =
       some = omega (arith, c.if-self-from.false, c.from.ensures, c.requires.least);
       none_waits = none-there c.args.self.now.state.0.frozen (sym c.is_frozen.ensures ∙ c.if-is_frozen.false);
     })
-    c.in-Ok.ensures.did c.in-Ok.ensures.kept c.in-Ok.ensures.turned c.in-Ok.ensures.lists
+    c.in-Ok.ensures.did c.in-Ok.ensures.kept c.freeze.ensures.legible c.in-Ok.ensures.turned c.in-Ok.ensures.lists
 
 pub returns-in-Err-clause-event : goal.returns-in-Err-clause-event
 returns-in-Err-clause-event g c =
@@ -65,5 +67,5 @@ returns-in-Err-clause-event g c =
     (after-stop old new now c.freeze.new.log c.freeze.new.state.0 c.in-Err.ensures.same_log (ap (λ s. s.0) c.in-Err.ensures.unchanged)
     (ap (state_of g.D.Device.pages g.D.Device.clock g.D.Device.fault_count g.D.Device.story) c.stop.ensures.stopped))
     step may c.in-Err.ensures.did
-    (λ table s told legible t told_now. subst (λ (l : Lists). IsLegible table l t) (ap (λ s. s.0) c.in-Err.ensures.unchanged) (c.in-Err.ensures.legible table s told legible t told_now))
+    (λ table disk s told legible t told_now. subst (λ (l : Lists). IsLegible table disk l t) (ap (λ s. s.0) c.in-Err.ensures.unchanged) (c.freeze.ensures.legible table disk s told legible t told_now))
     c.in-Err.ensures.cause.failed)

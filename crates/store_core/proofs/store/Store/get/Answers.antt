@@ -1,9 +1,14 @@
-use Rattle.std.proofs.Common.{ap, sym, subst, Err}
-use Rattle.store_machine.specs.Standing.{DeviceState, StoreState, Makes}
+use Rattle.std.proofs.Common.{ap, sym, subst, Ok, Err}
+use Rattle.store_machine.specs.Calls.{Makes}
+use Rattle.store_machine.specs.Standing.{StoreState}
+use Rattle.store_machine.specs.Devices.{DeviceState}
+use Rattle.store_machine.specs.declared.events.Got.{Got}
 use Rattle.store_machine.specs.declared.events.Refusal.{Refusal}
 use Rattle.store_machine.specs.declared.events.Action.TheVariants.{Get}
 use Rattle.store_core.specs.Stores.{state_of, device_of}
 use Rattle.store_core.proofs.Answering.{got-as, got-refused, reads-row}
+use Rattle.store_core.proofs.Tested.{damaged, tested}
+use Rattle.store_core.specs.Tested.{TestsPages}
 use Rattle.store_core.proofs.store.Store.get.Goals as goal
 
 pub returns-in-Ok-clause-event : goal.returns-in-Ok-clause-event
@@ -22,3 +27,18 @@ returns-in-Err-clause-event g c =
     (got-refused old now c.args.owner c.args.key c.in-Err.fault c.in-Err.ensures.asked.0
     (reads-row old now c.args.key _ c.in-Err.ensures.asked.0 c.in-Err.ensures.asked.1 c.in-Err.ensures.asked.3 c.in-Err.ensures.stays c.in-Err.ensures.same_pages c.in-Err.ensures.later (λ s is. g.met.D.Device.clock_told _ s is) c.in-Err.ensures.row)
     c.in-Err.ensures.failed c.in-Err.ensures.needs_no_memory)
+
+pub returns-in-Ok-clause-pages : goal.returns-in-Ok-clause-pages
+returns-in-Ok-clause-pages g c =
+    let y : Got = record { seq = c.draw-seq.result; row = c.in-Ok.row } in
+    let old : StoreState = state_of g.D.Device.pages g.D.Device.clock g.D.Device.fault_count g.D.Device.story c.args.self.now in
+    let now : DeviceState = device_of g.D.Device.pages g.D.Device.clock g.D.Device.fault_count g.D.Device.story c.read_row.new.device in
+    subst (λ (d : DeviceState). TestsPages {X = Got} old d (Ok y)) (sym (ap (λ (s : StoreState). s.device) (ap (state_of g.D.Device.pages g.D.Device.clock g.D.Device.fault_count g.D.Device.story) c.draw-seq.ensures.rest)))
+    (tested old now c.in-Ok.row y c.in-Ok.ensures.asked.0 c.in-Ok.ensures.asked.1 c.in-Ok.ensures.asked.2)
+
+pub returns-in-Err-clause-pages : goal.returns-in-Err-clause-pages
+returns-in-Err-clause-pages g c =
+    let old : StoreState = state_of g.D.Device.pages g.D.Device.clock g.D.Device.fault_count g.D.Device.story c.args.self.now in
+    let now : DeviceState = device_of g.D.Device.pages g.D.Device.clock g.D.Device.fault_count g.D.Device.story c.read_row.new.device in
+    subst (λ (r : Refusal). TestsPages {X = Got} old now (Err r)) (sym c.refused.ensures)
+    (damaged old now Got c.in-Err.fault c.in-Err.ensures.asked.0 c.in-Err.ensures.asked.1 c.in-Err.ensures.damaged)

@@ -1,20 +1,22 @@
 use Rattle.std.proofs.Common.{Err, ap, refl, sym, subst, arith}
-use Rattle.store_machine.specs.Standing.{StoreState, Makes, DeviceState}
+use Rattle.store_machine.specs.Calls.{Makes}
+use Rattle.store_machine.specs.Standing.{StoreState}
+use Rattle.store_machine.specs.Devices.{DeviceState}
 use Rattle.store_machine.specs.declared.events.Action.TheVariants.{JobWrite}
 use Rattle.store_machine.specs.declared.events.Refusal.{Refusal}
 use Rattle.store_state.specs.Lists.{Lists}
 use Rattle.kept_state.specs.Reading.{IsLegible}
 use Rattle.store_core.specs.Stores.{device_of, state_of}
-use Rattle.store_core.proofs.WorkEvents.{IsStep, after-stop, has-job, page-failed, write-stopped, wrote-page}
+use Rattle.store_core.proofs.WorkEvents.{IsStep, after-stop, page-failed, write-stopped, wrote-page}
 use Rattle.store_core.proofs.store.Store.job_write.Goals as goal
 
 pub returns-in-Some-clause-event : goal.returns-in-Some-clause-event
-returns-in-Some-clause-event g c row is =
+returns-in-Some-clause-event g c =
     let old : StoreState = state_of g.D.Device.pages g.D.Device.clock g.D.Device.fault_count g.D.Device.story c.args.self.now in
-    write-stopped old c.args.owner c.in-Some.faults row c.args.job.now (has-job old c.args.owner row c.args.job.now c.requires.begun is) c.requires.left c.in-Some.is
+    write-stopped old c.args.owner c.in-Some.faults c.args.job.now c.requires.begun c.requires.left c.in-Some.is
 
 pub returns-in-Ok-clause-event : goal.returns-in-Ok-clause-event
-returns-in-Ok-clause-event g c row is =
+returns-in-Ok-clause-event g c =
     let old : StoreState = state_of g.D.Device.pages g.D.Device.clock g.D.Device.fault_count g.D.Device.story c.args.self.now in
     let now : DeviceState = device_of g.D.Device.pages g.D.Device.clock g.D.Device.fault_count g.D.Device.story c.write_job_page.new.device in
     let step : IsStep old now = record {
@@ -24,11 +26,11 @@ returns-in-Ok-clause-event g c row is =
       faults = c.in-Ok.ensures.cause.later;
       time = omega (arith, c.in-Ok.ensures.ticks);
     } in
-    wrote-page old now c.write_job_page.new.state.0 c.args.owner row c.args.job.now c.in-Ok.ensures.did.0 step (has-job old c.args.owner row c.args.job.now c.requires.begun is) c.requires.left
-    c.in-Ok.ensures.did.1 c.in-Ok.ensures.did.3 (λ table. c.in-Ok.ensures.kept c.args.self.now.log table) c.in-Ok.ensures.lists
+    wrote-page old now c.write_job_page.new.state.0 c.args.owner c.args.job.now c.in-Ok.ensures.did.0 step c.requires.begun c.requires.left
+    c.in-Ok.ensures.did.1 c.in-Ok.ensures.did.3 (λ table. c.in-Ok.ensures.kept c.args.self.now.log table) c.write_job_page.ensures.legible c.in-Ok.ensures.lists
 
 pub returns-in-Err-clause-event : goal.returns-in-Err-clause-event
-returns-in-Err-clause-event g c row is =
+returns-in-Err-clause-event g c =
     let old : StoreState = state_of g.D.Device.pages g.D.Device.clock g.D.Device.fault_count g.D.Device.story c.args.self.now in
     let now : DeviceState = device_of g.D.Device.pages g.D.Device.clock g.D.Device.fault_count g.D.Device.story c.write_job_page.new.device in
     let new : StoreState = state_of g.D.Device.pages g.D.Device.clock g.D.Device.fault_count g.D.Device.story c.stop.new.self in
@@ -39,10 +41,10 @@ returns-in-Err-clause-event g c row is =
       faults = c.in-Err.ensures.cause.later;
       time = c.in-Err.ensures.ticks.0;
     } in
-    subst (λ (r : Refusal). Makes old new c.args.owner (JobWrite row (Err r))) (sym c.stop.ensures.fault)
-    (page-failed old new now c.args.owner row c.args.job.now _ c.in-Err.ensures.did.0
+    subst (λ (r : Refusal). Makes old new c.args.owner (JobWrite (record { owner = c.args.owner; job = c.args.job.now }) (Err r))) (sym c.stop.ensures.fault)
+    (page-failed old new now c.args.owner c.args.job.now _ c.in-Err.ensures.did.0
     (after-stop old new now c.args.self.now.log c.write_job_page.new.state.0 refl (ap (λ s. s.0) c.in-Err.ensures.unchanged.0)
     (ap (state_of g.D.Device.pages g.D.Device.clock g.D.Device.fault_count g.D.Device.story) c.stop.ensures.stopped))
-    step (has-job old c.args.owner row c.args.job.now c.requires.begun is) c.requires.left c.in-Err.ensures.did.3
-    (λ table s told legible t told_now. subst (λ (l : Lists). IsLegible table l t) (ap (λ s. s.0) c.in-Err.ensures.unchanged.0) (c.write_job_page.ensures.legible table s told legible t told_now))
+    step c.requires.begun c.requires.left c.in-Err.ensures.did.3
+    (λ table disk s told legible t told_now. subst (λ (l : Lists). IsLegible table disk l t) (ap (λ s. s.0) c.in-Err.ensures.unchanged.0) (c.write_job_page.ensures.legible table disk s told legible t told_now))
     c.in-Err.ensures.cause.failed)

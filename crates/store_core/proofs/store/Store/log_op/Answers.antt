@@ -3,8 +3,10 @@ use Rattle.dev_model.specs.Story.{WhereTold}
 use Rattle.geo_base.specs.declared.points.Point.{Point}
 use Rattle.table_model.specs.Table.{Table}
 use Rattle.wal_log.specs.Records.{record_bytes}
+use Rattle.primary_ix.specs.declared.rows.PrimRow.{PrimRow}
 use Rattle.component_image.specs.Told.{SaysOld}
-use Rattle.store_machine.specs.Standing.{DeviceState, StoreState}
+use Rattle.store_machine.specs.Standing.{StoreState}
+use Rattle.store_machine.specs.Devices.{DeviceState}
 use Rattle.store_state.specs.Lists.{Lists}
 use Rattle.kept_state.specs.Reading.{IsLegible}
 use Rattle.kept_state.specs.Writing.{next_record}
@@ -23,7 +25,8 @@ returns-in-Ok-clause-logged g c =
               going = c.requires.can.going;
               op_is = refl;
               any_moment = c.in-Ok.ensures.any_moment;
-              says = subst (λ (p : Option Point). (table : Table) → WhereTold old.device.story (λ s. IsLegible table old.lists s → SaysOld table (next_record old.log c.args.op.now p))) (sym c.old_point.ensures) c.requires.says;
+              says = subst (λ (p : Option Point). (table : Table) (disk : List (List PrimRow)) → WhereTold old.device.story (λ s. IsLegible table disk old.lists s → SaysOld table (next_record old.log c.args.op.now p))) (sym c.old_point.ensures) c.requires.says;
+              legible = c.in-Ok.ensures.legible;
               pages = c.in-Ok.ensures.same_pages;
               clock_told = λ s is. g.met.D.Device.clock_told _ s is;
             };
@@ -59,12 +62,12 @@ returns-in-Err-clause-fails g c =
               going = c.requires.can.going;
               op_is = refl;
               any_moment = c.in-Err.ensures.any_moment;
-              says = subst (λ (p : Option Point). (table : Table) → WhereTold old.device.story (λ s. IsLegible table old.lists s → SaysOld table (next_record old.log c.args.op.now p))) (sym c.old_point.ensures) c.requires.says;
+              says = subst (λ (p : Option Point). (table : Table) (disk : List (List PrimRow)) → WhereTold old.device.story (λ s. IsLegible table disk old.lists s → SaysOld table (next_record old.log c.args.op.now p))) (sym c.old_point.ensures) c.requires.says;
+              legible = c.in-Err.ensures.legible;
               pages = c.in-Err.ensures.same_pages;
               clock_told = λ s is. g.met.D.Device.clock_told _ s is;
             };
             did = c.in-Err.ensures.did;
-            legible = c.in-Err.ensures.legible;
           });
       width = subst (λ (p : Option Point). length (record_bytes (next_record old.log c.args.op.now p)) ≡ 95) c.old_point.ensures c.in-Err.ensures.width;
       time = c.in-Err.ensures.ticks.0;

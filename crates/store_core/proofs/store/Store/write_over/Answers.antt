@@ -1,4 +1,4 @@
-use Rattle.std.proofs.Common.{refl, ap}
+use Rattle.std.proofs.Common.{refl, ap, ◌∙◌}
 use Rattle.store_machine.specs.Standing.{StoreState}
 use Rattle.store_core.specs.Stores.{state_of}
 use Rattle.store_core.proofs.WriteEvents.{wrote-logged, not-logged}
@@ -18,3 +18,9 @@ pub returns-in-Err-clause-event : goal.returns-in-Err-clause-event
 returns-in-Err-clause-event g c before owner was =
     let mid : StoreState = state_of g.D.Device.pages g.D.Device.clock g.D.Device.fault_count g.D.Device.story c.args.self.now in
     not-logged before mid _ owner c.args.op.now c.args.row.now was c.requires.can c.in-Err.ensures.fails
+
+pub returns-in-Ok-clause-logged : goal.returns-in-Ok-clause-logged
+returns-in-Ok-clause-logged g c = record {
+  width = c.in-Ok.ensures.logged.width;
+  did = ap (λ (s : StoreState). s.device.story) (ap (state_of g.D.Device.pages g.D.Device.clock g.D.Device.fault_count g.D.Device.story) c.draw-seq.ensures.rest) ∙ c.in-Ok.ensures.logged.all.did;
+}

@@ -1,7 +1,8 @@
 use Rattle.std.proofs.Common.{ℕ, subst}
-use Rattle.primary_ix.specs.Components.{AreAllLent}
+use Rattle.primary_ix.specs.Pages.{AreAllLent}
 use Rattle.space_map.specs.Space.{is_reserved}
-use Rattle.store_state.specs.Lists.{Lists, trees_of, extents_of, IsOpenSlot}
+use Rattle.store_state.specs.Lists.{Lists, trees_of, extents_of}
+use Rattle.store_state.specs.EveryList.{IsOpenSlot}
 use Rattle.store_state.proofs.Lent.{All-front, all_lent}
 use Rattle.store_state.proofs.state.State.components.Goals as goal
 

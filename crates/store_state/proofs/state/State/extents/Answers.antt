@@ -1,7 +1,8 @@
 use Rattle.std.proofs.Common.{ℕ, ◌≤◌, All, subst}
-use Rattle.primary_ix.specs.Components.{AreAllLent}
+use Rattle.primary_ix.specs.Pages.{AreAllLent}
 use Rattle.space_map.specs.Space.{end_of, is_reserved}
-use Rattle.store_state.specs.Lists.{Lists, trees_of, extents_of, IsOpenSlot}
+use Rattle.store_state.specs.Lists.{Lists, trees_of, extents_of}
+use Rattle.store_state.specs.EveryList.{IsOpenSlot}
 use Rattle.store_state.proofs.Lent.{All-front, all_lent, on_device}
 use Rattle.store_state.proofs.state.State.extents.Goals as goal
 

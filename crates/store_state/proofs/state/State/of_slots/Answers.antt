@@ -2,7 +2,8 @@ use Rattle.std.proofs.Common.{rules, ◌≡◌, ◌≤◌, ◌++◌, None, All, 
 use Rattle.comp_dir.specs.declared.places.TheConstants.{MOST_LIVE}
 use Rattle.space_map.specs.declared.space.TheConstants.{LEAST_PAGES, MOST_PAGES}
 use Rattle.space_map.specs.Space.{is_reserved}
-use Rattle.store_state.specs.Lists.{Lists, IsLists, IsOpenSlot, extents_of}
+use Rattle.store_state.specs.Lists.{Lists, extents_of}
+use Rattle.store_state.specs.EveryList.{IsLists, IsOpenSlot}
 use Rattle.store_state.specs.Opened.{opened}
 use Rattle.store_state.proofs.Keeping.{opened-IsLists}
 use Rattle.store_state.proofs.state.State.of_slots.Goals as goal

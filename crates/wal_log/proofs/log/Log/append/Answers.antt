@@ -1,16 +1,15 @@
 use Rattle.std.proofs.Common.{◌+◌, ◌++◌, [], ◌∷◌, sym, ◌∙◌, ap, arith, refl, Ok, Err, subst}
 use Rattle.std.proofs.lemmas.Nat.{mod_below}
-use Rattle.dev_model.specs.Story.{Write, Sync}
+use Rattle.dev_model.specs.Story.{Write, Sync, bytes_of}
 use Rattle.wal_log.specs.Places.{record_start}
 use Rattle.wal_log.specs.Records.{record_bytes}
-use Rattle.wal_log.specs.State.{append_calls}
+use Rattle.wal_log.specs.Changes.{append_calls, OpensAs}
 use Rattle.wal_log.proofs.Planned.{told-before, told-end, stopped-first, stopped-second, done-both}
 use Rattle.wal_log.proofs.Growing.{append-within, append-are, append-leaves, append-grown, append-rests}
 use Rattle.wal_log.specs.Segments.{segments_of}
 use Rattle.wal_log.specs.declared.records.Record.{Record}
-use Rattle.wal_log.specs.State.{IsLogOf, OpensAs}
+use Rattle.wal_log.specs.State.{IsLogOf}
 use Rattle.wal_log.specs.Rules.{records_of}
-use Rattle.dev_model.specs.Story.{bytes_of}
 use Rattle.dev_model.specs.Laws.Runs.{LeavesOnly-weaker}
 use Rattle.wal_log.proofs.Spelled.{record-is}
 use Rattle.wal_log.proofs.Keeping.{one-record, log_of-append, recovers-append, opens-append}

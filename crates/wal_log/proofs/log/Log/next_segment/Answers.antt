@@ -1,11 +1,10 @@
 use Rattle.std.proofs.Common.{◌+◌, ◌++◌, ℕ, sym, ap, arith, refl, Ok, Err, get_or, set, false, true, rules, subst}
 use Rattle.std.proofs.lemmas.Nat.{mod_below}
-use Rattle.dev_model.specs.Story.{HasStoppedIn}
-use Rattle.wal_log.specs.State.{following, close_calls_if, start_calls, turn_calls}
+use Rattle.dev_model.specs.Doing.{HasStoppedIn}
+use Rattle.wal_log.specs.State.{following, close_calls_if, start_calls, turn_calls, IsLogOf}
 use Rattle.wal_log.proofs.Planned.{told-before, told-end, stopped-first, stopped-second, done-both}
 use Rattle.wal_log.proofs.Turning.{turn-within, turn-leaves-only, turned-segments, turned-rests}
 use Rattle.wal_log.specs.Segments.{segments_of}
-use Rattle.wal_log.specs.State.{IsLogOf}
 use Rattle.dev_model.specs.Story.{bytes_of}
 use Rattle.dev_model.specs.Laws.Runs.{LeavesOnly-weaker}
 use Rattle.wal_log.proofs.Renewing.{log_of-turn, same-records}

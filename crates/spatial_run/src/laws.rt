@@ -1,0 +1,34 @@
+// Laws over calls of the program, each as the contract of a function that does nothing.
+ghost use Rattle.std.specs.Prelude.{◌⊎◌, ℕ, List, Option, Result};
+ghost use Rattle.std.specs.FinMap.{empty};
+ghost use Rattle.dev_model.specs.Story.{Bytes, Story, WhereTold};
+ghost use Rattle.dev_model.specs.Moments.{LeavesOnly};
+ghost use Rattle.dev_model.specs.declared.streams.Failed.{Failed};
+ghost use Rattle.table_model.specs.Table.{Table};
+ghost use Rattle.table_model.specs.Commands as model;
+ghost use Rattle.table_model.specs.Phases.{Phases};
+ghost use Rattle.table_model.specs.Record.{RunRecord};
+ghost use Rattle.component_image.specs.Recovered.{Recovers};
+ghost use Rattle.device_format.specs.Formatting.{IsEmptyStore, IsUnformatted};
+ghost use Rattle.store_machine.specs.Crash.{attempted};
+ghost use Rattle.store_machine.specs.Devices.{DeviceState, HoldsTable};
+ghost use Rattle.store_machine.specs.Outcomes.{Group, logged_groups};
+ghost use Rattle.spatial_run.specs.OnDevice.{LeavesOver, Formatting, RanFrom};
+ghost use Rattle.spatial_run.specs.Reopening.{begun_with, HoldsFirst};
+ghost use Rattle.spatial_run.specs.declared.outcomes.Refusals.{Refusals};
+
+/// A law: a crash at any moment of a run on a device that held a table leaves an image that holds the table after the first of
+/// the writes, as a device that begins with it, with each write that was acknowledged by then; and a crash at any moment of a
+/// format leaves one that holds the old table or the empty one, or no store.
+pub fn a_crash_leaves_a_store()
+    ensures served { (table : Table) (before : Story) (unfinished : Option Group) (new : DeviceState) (acks : List ℕ) (s : Phases model.Command) (r : RunRecord) (f : Refusals) → RanFrom table before unfinished new acks s r f →
+        LeavesOver before new.story (HoldsFirst new.pages table (attempted (logged_groups s.setup r.setup) unfinished) acks) }
+    ensures formatted { (indexes : ℕ) (old new : DeviceState) (result : Result (Unit {0}) Failed) (table : Table) → Formatting indexes old new result →
+        WhereTold old.story (λ s. HoldsTable old.pages table s → LeavesOnly s new.story (λ image. HoldsTable old.pages table (begun_with image) ⊎ (IsUnformatted image ⊎ HoldsTable old.pages empty (begun_with image)))) }
+{}
+
+/// A law: an image that recovers to a table is a device that holds it, so that the next call may begin with what a crash left.
+pub fn a_crash_can_be_reopened()
+    ensures table { (pages : ℕ) (table : Table) (image : Bytes) → Recovers pages table image → HoldsTable pages table (begun_with image) }
+    ensures empty { (pages indexes : ℕ) (image : Bytes) → IsEmptyStore pages indexes image → HoldsTable pages empty (begun_with image) }
+{}

@@ -1,0 +1,37 @@
+-- What an outcome says of its command: what was logged, or with which word it was refused.
+use Rattle.std.specs.Prelude.{ℕ, List, [], ◌∷◌, ◌++◌}
+use Rattle.table_model.specs.Table.{Table}
+use Rattle.table_model.specs.Commands.{Write as TableWrite, put, del, Command, on_table, write, del_old, wrote, Outcome, answered, quiet, refused}
+use Rattle.table_model.specs.declared.Why.{Why}
+use Rattle.image_model.specs.Recovered.{after_writes}
+
+-- writes that are logged together
+abbrev pub Group : Type 0
+Group = List TableWrite
+
+-- the table after these groups
+abbrev pub after_groups : Table → List Group → Table
+after_groups t [] = t
+after_groups t (g ∷ gs) = after_groups (after_writes t g) gs
+
+-- a put that is answered is logged, and a delete that took a row away
+abbrev pub logged_by : Command → Outcome → List Group
+logged_by (on_table (write (put row))) (answered seq reply) = (put row ∷ []) ∷ []
+logged_by (on_table (write (del key))) (answered seq (wrote (del_old point note))) = (del key ∷ []) ∷ []
+logged_by c o = []
+
+-- what was logged by the answered writes of these commands, in order
+abbrev pub logged_groups : List Command → List Outcome → List Group
+logged_groups [] os = []
+logged_groups (c ∷ cs) [] = []
+logged_groups (c ∷ cs) (o ∷ os) = logged_by c o ++ logged_groups cs os
+
+-- the word of a command that was refused
+abbrev pub refused_word : Outcome → List Why
+refused_word (answered seq reply) = []
+refused_word quiet = []
+refused_word (refused word) = word ∷ []
+
+abbrev pub refused_words : List Outcome → List Why
+refused_words [] = []
+refused_words (o ∷ os) = refused_word o ++ refused_words os
