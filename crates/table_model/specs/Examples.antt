@@ -71,3 +71,10 @@ false_del = alone (answered 0 (wrote (del_old one.point one.note)) ∷ [])
 
 abbrev pub false_count : RunRecord
 false_count = alone (answered 0 (counted 1) ∷ [])
+
+-- two lanes that are answered with one seq
+abbrev pub two_counts : Phases Command
+two_counts = record { setup = []; lanes = (on_table count ∷ []) ∷ (on_table count ∷ []) ∷ []; after = [] }
+
+abbrev pub two_counts_at_once : RunRecord
+two_counts_at_once = record { setup = []; lanes = (answered 3 (counted 0) ∷ []) ∷ (answered 3 (counted 0) ∷ []) ∷ []; after = [] }

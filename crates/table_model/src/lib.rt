@@ -10,7 +10,7 @@ ghost use Rattle.table_model.specs.Commands.{TableCommand, on_table, flush, writ
 ghost use Rattle.table_model.specs.Answers.{replay, replies};
 ghost use Rattle.table_model.specs.Record.{record_text, history, FitsScript, IsAnswered};
 ghost use Rattle.table_model.specs.declared.Why.TheVariants.{NoIndex, Damaged, Memory};
-ghost use Rattle.table_model.specs.Examples.{shuffled_script, shuffled_record, shuffled_text, refused_script, refused_record, refused_run_text, flushed_script, flushed_record, flushed_text, alone, one, false_get, false_del, false_count};
+ghost use Rattle.table_model.specs.Examples.{shuffled_script, shuffled_record, shuffled_text, refused_script, refused_record, refused_run_text, flushed_script, flushed_record, flushed_text, alone, one, false_get, false_del, false_count, two_counts, two_counts_at_once};
 
 /// Why a command was refused.
 #[derive(Clone, Copy, Debug, PartialEq, Eq)]
@@ -49,8 +49,8 @@ pub fn worked_records()
 {}
 
 /// Worked examples of what is excluded: answers that aren't those of the empty table, refusals that a command can't
-/// have, a command without an outcome, answers against the script's order, a flush that is answered, and a command for the
-/// table of which nothing is told.
+/// have, a command without an outcome, answers against the script's order, two lanes that share a seq, a flush that is answered,
+/// and a command for the table of which nothing is told.
 pub fn worked_exclusions()
     ensures false_get { IsAnswered empty (history (alone (on_table (get 1) ∷ [])) false_get) → ⊥ }
     ensures false_del { IsAnswered empty (history (alone (on_table (write (del 1)) ∷ [])) false_del) → ⊥ }
@@ -60,6 +60,7 @@ pub fn worked_exclusions()
     ensures put_without_an_index { FitsScript (alone (on_table (write (put one)) ∷ [])) (alone (refused NoIndex ∷ [])) → ⊥ }
     ensures no_outcome { FitsScript (alone (on_table count ∷ [])) (alone []) → ⊥ }
     ensures wrong_order { FitsScript (alone (on_table count ∷ on_table count ∷ [])) (alone (answered 1 (counted 0) ∷ answered 0 (counted 0) ∷ [])) → ⊥ }
+    ensures one_seq_twice { FitsScript two_counts two_counts_at_once → ⊥ }
     ensures answered_flush { FitsScript (alone (flush ∷ [])) (alone (answered 0 (counted 0) ∷ [])) → ⊥ }
     ensures damaged_flush { FitsScript (alone (flush ∷ [])) (alone (refused Damaged ∷ [])) → ⊥ }
     ensures quiet_get { FitsScript (alone (on_table (get 1) ∷ [])) (alone (quiet ∷ [])) → ⊥ }

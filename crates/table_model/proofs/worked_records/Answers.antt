@@ -1,4 +1,4 @@
-use Rattle.std.proofs.Common.{◌≡◌, length, map, [], ◌∷◌, ap, sym, ◌∙◌, refl, Some, None}
+use Rattle.std.proofs.Common.{◌≡◌, length, map, [], ◌∷◌, ap, sym, ◌∙◌, refl, arith, Some, None}
 use Rattle.std.specs.Prelude.{is_some, cond, ◌-◌}
 use Rattle.std.specs.Fmt.{digits}
 use Rattle.std.specs.Ordering.{nat_cmp}
@@ -50,3 +50,13 @@ returns-clause-refused_text c = refl
 pub returns-clause-flushed_text : goal.returns-clause-flushed_text
 unfolding digits
 returns-clause-flushed_text c = refl
+
+pub returns-clause-flushed : goal.returns-clause-flushed
+returns-clause-flushed c = record {
+  setup = (tt, (tt, (tt, ((2, omega arith, refl), tt))));
+  lanes = tt;
+  after = tt;
+  differ = (omega arith, tt);
+  around = λ i d below. absurd (omega (arith, below));
+  through = (omega arith, tt);
+}
