@@ -2,9 +2,9 @@
 ghost use Rattle.std.specs.Prelude.{◌≡◌, ◌<◌, ◌^◌, length, None, IfOk, OnErr};
 ghost use Rattle.wal_log.specs.declared.records.LogOp.TheVariants as log;
 ghost use Rattle.script_lang.specs.CommandViews.{command_of, commands_of};
-ghost use Rattle.store_machine.specs.Commands.{write_outcome, get_outcome, region_outcome, flush_outcome};
+ghost use Rattle.store_machine.specs.Commands.{write_outcome, get_outcome, region_outcome};
 ghost use Rattle.store_core.specs.Stores.{state_of};
-ghost use Rattle.store_commands.specs.Commands.{IsServing, HasDone, rows_found};
+ghost use Rattle.store_commands.specs.Commands.{IsServing, HasDone, rows_found, flush_outcome};
 ghost use Rattle.spatial_run.specs.Views.{outcome_of, outcomes_of};
 ghost use Rattle.spatial_run.specs.Steps.{MadeAll};
 

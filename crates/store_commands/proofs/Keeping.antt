@@ -1,5 +1,5 @@
 -- The events of commands, put together from those of their calls.
-use Rattle.std.proofs.Common.{◌≡◌, inl, inr, ℕ, ◌<◌, ◌≤◌, Bool, true, false, if◌then◌else◌, List, [], ◌∷◌, ◌++◌, Option, Some, None, Ok, Err, Result, refl, sym, ◌∙◌, ap, subst, append_assoc, append-nil}
+use Rattle.std.proofs.Common.{◌≡◌, inl, inr, ℕ, ◌<◌, ◌≤◌, Bool, true, false, if◌then◌else◌, List, [], ◌∷◌, ◌++◌, Option, Some, None, Ok, Err, Result, refl, sym, ◌∙◌, ap, subst, append_assoc, append-nil, arith}
 use Rattle.std.specs.Prelude.{Contains}
 use Rattle.std.specs.Option.{option_to_list}
 use Rattle.std.proofs.lemmas.List.Elements.{Contains-push}
@@ -8,7 +8,7 @@ use Rattle.table_model.specs.declared.Why.{Why}
 use Rattle.wal_log.specs.declared.records.LogOp.{LogOp}
 use Rattle.image_model.specs.Recovered.{write_of}
 use Rattle.store_machine.specs.Commands.{is_upkeep, own, word_of, refusal_of, words_of, words, write_outcome, get_outcome, region_outcome, IsCall, looks, look_in, IsRefusedFlush, Does}
-use Rattle.store_machine.specs.Outcomes.{refused_word}
+use Rattle.table_model.specs.Record.{refused_word}
 use Rattle.store_machine.specs.Standing.{StoreState}
 use Rattle.store_machine.specs.Calls.{Makes}
 use Rattle.store_machine.specs.Laws.Histories.{own-append, words-append}
@@ -174,17 +174,19 @@ does-again op result events again (inl last) = inl (record {
 does-again op result events again (inr (word, result_is, upkeep)) = inr (record {
   op = op;
   command_is = refl;
-  none = ap own again.are ∙ upkeep-first again.event (action.Write op (Err (Again again.ops))) again.later again.is refl ∙ upkeep.none;
-  before = [];
+  word = word;
+  outcome_is = ap (write_outcome op) result_is;
+  upkeep = record {
+    none = ap own again.are ∙ upkeep-first again.event (action.Write op (Err (Again again.ops))) again.later again.is refl ∙ upkeep.none;
+    before = again.event ∷ upkeep.before;
+    last = upkeep.last;
+    are = again.are ∙ ap (λ (l : List Event). again.event ∷ l) upkeep.are;
+    refused_is = upkeep.refused_is;
+  };
   again = again.event;
-  between = upkeep.before;
-  last = upkeep.last;
-  are = again.are ∙ ap (λ (l : List Event). again.event ∷ l) upkeep.are;
+  is_before = (0, omega arith, refl);
   ops = again.ops;
   again_is = again.is;
-  word = word;
-  refused_is = upkeep.refused_is;
-  outcome_is = ap (write_outcome op) result_is;
 })
 
 tries-do : (op : LogOp) (result : Result Wrote Why) (events : List Event) → Tries op result events → Does (on_table (write (write_of op))) (write_outcome op result) events

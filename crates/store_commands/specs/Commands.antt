@@ -2,12 +2,12 @@
 use Rattle.std.specs.Prelude.{◌≡◌, ◌≢◌, ◌⊎◌, ℕ, ◌<◌, ◌≤◌, List, [], ◌∷◌, ◌++◌, Option, None, Some, All, Result, Ok, Err}
 use Rattle.std.specs.Option.{option_to_list}
 use Rattle.image_model.specs.Recovered.{write_of}
-use Rattle.table_model.specs.Commands.{TableCommand, write, Command, Outcome}
+use Rattle.table_model.specs.Commands.{TableCommand, write, Command, Outcome, quiet, refused}
+use Rattle.table_model.specs.Record.{refused_word}
 use Rattle.table_model.specs.declared.Why.{Why}
 use Rattle.wal_log.specs.declared.records.LogOp.{LogOp}
 use Rattle.store_core.specs.declared.region.RegionRows.{RegionRows}
 use Rattle.store_machine.specs.Commands.{own, word_of, refusal_of, words, write_outcome, IsCall, IsRefusedFlush, Does}
-use Rattle.store_machine.specs.Outcomes.{refused_word}
 use Rattle.store_machine.specs.Calls.{IsReady, IsStanding, Adds}
 use Rattle.store_machine.specs.Standing.{StoreState}
 use Rattle.store_machine.specs.declared.events.Action.TheVariants as action
@@ -23,6 +23,11 @@ pub record IsServing (store : StoreState) : Type 0 where
   pub ready : IsReady store
   pub standing : IsStanding store
   pub idle : store.stopped ≡ None → store.lists.job ≡ None
+
+-- what became of a flush, by what is answered to it
+abbrev pub flush_outcome : Result (Unit {0}) Why → Outcome
+flush_outcome (Ok done) = quiet
+flush_outcome (Err word) = refused word
 
 -- these events were made, all by this owner
 pub record Made (old new : StoreState) (owner : ℕ) (events : List Event) : Type 0 where

@@ -3,11 +3,11 @@ use Rattle.std.specs.Prelude.{◌≡◌, ◌≢◌, ℕ, ◌<◌, List, [], Opti
 use Rattle.std.specs.Option.{option_to_list}
 use Rattle.build_job.specs.Jobs.{Job}
 use Rattle.build_job.specs.Steps.{steps_left}
+use Rattle.table_model.specs.Record.{refused_word}
 use Rattle.table_model.specs.declared.Why.{Why}
 use Rattle.wal_log.specs.declared.records.LogOp.{LogOp}
 use Rattle.store_state.specs.OwnJob.{IsJobOf}
 use Rattle.store_machine.specs.Commands.{own, words_of, words, write_outcome}
-use Rattle.store_machine.specs.Outcomes.{refused_word}
 use Rattle.store_machine.specs.Standing.{StoreState}
 use Rattle.store_machine.specs.declared.events.Event.{Event}
 use Rattle.store_machine.specs.declared.events.Refusal.{Refusal}

@@ -4,10 +4,10 @@ ghost use Rattle.table_model.specs.Commands.{flush};
 ghost use Rattle.store_state.specs.Lists.{placed_up_to};
 ghost use Rattle.store_state.specs.OwnJob.{IsJobOf};
 ghost use Rattle.store_core.specs.Stores.{state_of};
-ghost use Rattle.store_machine.specs.Commands.{word_of, flush_outcome};
+ghost use Rattle.store_machine.specs.Commands.{word_of};
 ghost use Rattle.store_machine.specs.Calls.{IsReady, IsStanding};
 ghost use Rattle.store_commands.specs.declared.upkeep.TheConstants.{FLUSH_AT};
-ghost use Rattle.store_commands.specs.Commands.{IsServing, HasDone, OnlyLooks, IsFinal};
+ghost use Rattle.store_commands.specs.Commands.{IsServing, HasDone, OnlyLooks, IsFinal, flush_outcome};
 ghost use Rattle.store_commands.specs.Upkeep.{KeepsUp, HasWritten, HasNoFrozen, HasFlushed};
 
 use build_job::{BuildJob, JobStep};

@@ -26,17 +26,13 @@ use Rattle.store_machine.specs.declared.events.Event.{Event}
 
 -- Upkeep: what a store tells about itself, the steps of a flush, and a write that is to be made again after them.
 abbrev pub is_upkeep : Action → Bool
-is_upkeep (action.Write op (Ok answer)) = false
 is_upkeep (action.Write op (Err (Again ops))) = true
-is_upkeep (action.Write op (Err refusal)) = false
-is_upkeep (action.Get key answer) = false
-is_upkeep (action.Count seq n) = false
 is_upkeep (action.Look look) = true
-is_upkeep (action.Region kind rect answer) = false
 is_upkeep (action.Freeze least answer) = true
 is_upkeep (action.Begin answer) = true
 is_upkeep (action.JobWrite own answer) = true
 is_upkeep (action.Install own answer) = true
+is_upkeep other = false
 
 -- the events of a command without its upkeep
 abbrev pub own : List Event → List Event
@@ -97,10 +93,6 @@ abbrev pub region_outcome : Result Found Why → Outcome
 region_outcome (Ok answer) = answered answer.seq (rows answer.rows)
 region_outcome (Err word) = refused word
 
-abbrev pub flush_outcome : Result (Unit {0}) Why → Outcome
-flush_outcome (Ok done) = quiet
-flush_outcome (Err word) = refused word
-
 -- an answer of the store is that to the command: the same, or a refusal by its word
 abbrev pub IsSaid : {X : Type 0} → Result X Refusal → Result X Why → Type 0
 IsSaid (Ok x) answer = answer ≡ Ok x
@@ -119,23 +111,6 @@ pub record DoesOne (c : TableCommand) (o : Outcome) (es : List Event) : Type 0 w
   pub event : Event
   pub only : own es ≡ event ∷ []
   pub call : IsCall event.action c o
-
--- The command is a write that is to be made again after some upkeep, and the last event, a step of this upkeep, was refused. So
--- the write was not made.
-pub record UpkeepRefused (c : TableCommand) (o : Outcome) (es : List Event) : Type 0 where
-  pub op : LogOp
-  pub command_is : c ≡ write (write_of op)
-  pub none : own es ≡ []
-  pub before : List Event
-  pub again : Event
-  pub between : List Event
-  pub last : Event
-  pub are : es ≡ before ++ again ∷ (between ++ last ∷ [])
-  pub ops : ℕ
-  pub again_is : again.action ≡ action.Write op (Err (Again ops))
-  pub word : Why
-  pub refused_is : IsRefusedWith word last.action
-  pub outcome_is : o ≡ refused word
 
 -- what the store told about itself in these events
 abbrev pub look_in : Action → List Look
@@ -164,6 +139,19 @@ pub record IsRefusedFlush (word : Why) (es : List Event) : Type 0 where
   pub last : Event
   pub are : es ≡ before ++ last ∷ []
   pub refused_is : IsRefusedWith word last.action
+
+-- The command is a write that is to be made again after some upkeep, and the last event, a step of this upkeep, was refused. So
+-- the write was not made.
+pub record UpkeepRefused (c : TableCommand) (o : Outcome) (es : List Event) : Type 0 where
+  pub op : LogOp
+  pub command_is : c ≡ write (write_of op)
+  pub word : Why
+  pub outcome_is : o ≡ refused word
+  pub upkeep : IsRefusedFlush word es
+  pub again : Event
+  pub is_before : Contains upkeep.before again
+  pub ops : ℕ
+  pub again_is : again.action ≡ action.Write op (Err (Again ops))
 
 -- the events are this command, and this became of it
 abbrev pub Does : Command → Outcome → List Event → Type 0

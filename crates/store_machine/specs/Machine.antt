@@ -110,23 +110,14 @@ abbrev pub does : Action → Machine → Machine
 does (Write op (Ok wrote)) m =
     let n : Machine = if is_logged op wrote then after_logged op (is_some wrote.old) wrote.ack m else m in
     after_answer (record n { table = after_write m.table (write_of op) })
-does (Write op (Err refusal)) m = m
 does (Get key (Ok got)) m = after_answer m
-does (Get key (Err refusal)) m = m
 does (Count seq rows) m = after_answer m
-does (Look look) m = m
 does (Region kind rect (Ok found)) m = after_answer m
-does (Region kind rect (Err refusal)) m = m
 does (Freeze least (Ok true)) m = record m { log = log_turned m.log; lists = frozen_at (m.log.next_lsn - 1) m.lists }
-does (Freeze least (Ok false)) m = m
-does (Freeze least (Err refusal)) m = m
 does (Begin (Ok (Some own))) m = record m { lists = begun (fresh own.owner own.job.plan) m.lists }
-does (Begin (Ok None)) m = m
-does (Begin (Err refusal)) m = m
 does (JobWrite own (Ok done)) m = record m { lists = one_written m.lists }
-does (JobWrite own (Err refusal)) m = m
 does (Install own (Ok done)) m = record m { lists = installed (row_of own) m.lists; disk = own.job.rows ∷ m.disk }
-does (Install own (Err refusal)) m = m
+does other m = m
 
 -- the group that an event logs
 abbrev pub group_of : Action → Option Group

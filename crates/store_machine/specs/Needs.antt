@@ -85,12 +85,10 @@ pub record NeedsRegion (known : Bool) (m : Machine) (kind : IndexKind) (rect : C
 
 abbrev pub RefusesRegion : Bool → Machine → IndexKind → Refusal → Type 0
 RefusesRegion known m kind Fault = has_index m.declared kind ≡ true
-RefusesRegion known m kind (Stopped faults) = ⊥
-RefusesRegion known m kind (Full need longest) = ⊥
-RefusesRegion known m kind (Again ops) = ⊥
 RefusesRegion known m kind NoIndex = has_index m.declared kind ≡ false
 RefusesRegion known m kind (Damaged page) = MayBeDamaged known × (has_index m.declared kind ≡ true)
 RefusesRegion known m kind OutOfMemory = has_index m.declared kind ≡ true
+RefusesRegion known m kind other = ⊥
 
 -- the active list may be frozen: it has so many writes, and no other one waits
 pub record MayFreeze (m : Machine) (least : ℕ) : Type 0 where

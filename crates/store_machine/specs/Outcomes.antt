@@ -1,8 +1,7 @@
--- What an outcome says of its command: what was logged, or with which word it was refused.
+-- What an outcome says was logged of its command.
 use Rattle.std.specs.Prelude.{ℕ, List, [], ◌∷◌, ◌++◌}
 use Rattle.table_model.specs.Table.{Table}
-use Rattle.table_model.specs.Commands.{Write as TableWrite, put, del, Command, on_table, write, del_old, wrote, Outcome, answered, quiet, refused}
-use Rattle.table_model.specs.declared.Why.{Why}
+use Rattle.table_model.specs.Commands.{Write as TableWrite, put, del, Command, on_table, write, del_old, wrote, Outcome, answered}
 use Rattle.image_model.specs.Recovered.{after_writes}
 
 -- writes that are logged together
@@ -25,13 +24,3 @@ abbrev pub logged_groups : List Command → List Outcome → List Group
 logged_groups [] os = []
 logged_groups (c ∷ cs) [] = []
 logged_groups (c ∷ cs) (o ∷ os) = logged_by c o ++ logged_groups cs os
-
--- the word of a command that was refused
-abbrev pub refused_word : Outcome → List Why
-refused_word (answered seq reply) = []
-refused_word quiet = []
-refused_word (refused word) = word ∷ []
-
-abbrev pub refused_words : List Outcome → List Why
-refused_words [] = []
-refused_words (o ∷ os) = refused_word o ++ refused_words os

@@ -73,9 +73,9 @@ Rises (n ∷ m ∷ ns) = (n < m) × Rises (m ∷ ns)
 -- Which outcomes a command may have: one for the table any answer, since the history says which, and a flush none, as nothing is told
 -- of it; and each its own refusals.
 abbrev pub IsFor : Command → Outcome → Type 0
+IsFor c (refused why) = MayRefuse c why
 IsFor (on_table c) (answered seq reply) = Unit {0}
 IsFor flush quiet = Unit {0}
-IsFor c (refused why) = MayRefuse c why
 IsFor c other = ⊥
 
 -- one outcome for each command, and one that it may have

@@ -1,5 +1,5 @@
 -- What a run of events is for a list of commands. No public contract needs these laws.
-use Rattle.std.proofs.Common.{◌≡◌, inl, inr, ℕ, ◌+◌, ◌-◌, ◌^◌, ◌<◌, ◌≤◌, Bool, true, false, List, [], ◌∷◌, ◌++◌, map, length, refl, sym, ◌∙◌, ap, subst, arith, append_assoc, append-nil, Option, Some, None, is_some, Ok, Err, if◌then◌else◌}
+use Rattle.std.proofs.Common.{◌≡◌, inl, inr, ℕ, zero, suc, ◌+◌, ◌-◌, ◌^◌, ◌<◌, ◌≤◌, Bool, true, false, List, [], ◌∷◌, ◌++◌, map, length, refl, sym, ◌∙◌, ap, subst, arith, append_assoc, append-nil, Option, Some, None, is_some, Ok, Err, if◌then◌else◌}
 use Rattle.std.proofs.lemmas.Bool.Decides.{nat_tests}
 use Rattle.std.proofs.lemmas.Option.{same_Some}
 use Rattle.std.specs.Option.{option_map}
@@ -12,7 +12,7 @@ use Rattle.table_model.specs.Table.{Table, Place, place_of, row_at}
 use Rattle.table_model.specs.Commands.{Write, put, del, TableCommand, write, get, count, region, Command, on_table, flush, wrote, got, counted, rows, Outcome, answered, quiet, refused}
 use Rattle.table_model.specs.Answers.{put_reply, del_reply, table_after, reply_to, replay, replies}
 use Rattle.table_model.specs.Refusals.{MayRefuse}
-use Rattle.table_model.specs.Record.{HistoryAnswer, lane_answers, seqs, Rises, IsFor, IsQuiet, OneEach}
+use Rattle.table_model.specs.Record.{HistoryAnswer, lane_answers, seqs, Rises, IsFor, OneEach}
 use Rattle.table_model.specs.declared.Why.{Why}
 use Rattle.table_model.specs.declared.Why.TheVariants as why
 use Rattle.wal_log.specs.declared.records.LogOp.{LogOp}
@@ -22,7 +22,7 @@ use Rattle.store_machine.specs.Outcomes.{Group, logged_by, logged_groups}
 use Rattle.store_machine.specs.Machine.{Machine, does, after_logged, after_event, after_all, group_of}
 use Rattle.store_machine.specs.Needs.{Needs, NeedsWrite, RefusesStep, place_in}
 use Rattle.store_machine.specs.Runs.{IsRun}
-use Rattle.store_machine.specs.Commands.{is_upkeep, own, word_of, refusal_of, words_of, words, IsRefusedWith, wrote_reply, write_outcome, get_outcome, region_outcome, IsCall, Does, DoesAll, stopped_group}
+use Rattle.store_machine.specs.Commands.{is_upkeep, own, word_of, refusal_of, words_of, words, IsRefusedWith, IsRefusedFlush, wrote_reply, write_outcome, get_outcome, region_outcome, IsCall, Does, DoesAll, stopped_group}
 use Rattle.store_machine.specs.Laws.Steps.{after_all-append}
 use Rattle.store_machine.specs.declared.events.Wrote.{Wrote}
 use Rattle.store_machine.specs.declared.events.Refusal.{Refusal}
@@ -142,7 +142,7 @@ only-one known m (f ∷ es) e run only = by_kind (is_upkeep f.action) refl (λ r
 abbrev WasDone : Bool → Machine → Machine → Command → Outcome → Type 0
 WasDone known m n (on_table c) (answered seq reply) = (seq ≡ m.seq) × (n.seq ≡ next_count m.seq) × (known ≡ true → reply ≡ reply_to m.table c) × (n.table ≡ table_after m.table c)
 WasDone known m n flush (answered seq reply) = ⊥
-WasDone known m n c quiet = IsQuiet c × (n.seq ≡ m.seq) × (n.table ≡ m.table)
+WasDone known m n c quiet = IsFor c quiet × (n.seq ≡ m.seq) × (n.table ≡ m.table)
 WasDone known m n c (refused word) = MayRefuse c word × (n.seq ≡ m.seq) × (n.table ≡ m.table)
 
 record Done (known : Bool) (m n : Machine) (c : Command) (o : Outcome) : Type 0 where
@@ -191,36 +191,36 @@ no_word : (c : Command) (word : Why) → ◌≡◌ {A = Option Why} None (Some w
 no_word c word is = absurd (let no : ◌≡◌ {A = Option Why} None (Some word) = is in cc)
 
 refused_write : (known : Bool) (m : Machine) (op : LogOp) (refusal : Refusal) (word : Why) → Needs known m (action.Write op (Err refusal)) → word_of refusal ≡ Some word → MayRefuse (on_table (write (write_of op))) word
-refused_write known m op Fault word needs is = word_fits (on_table (write (write_of op))) why.Fault word tt is
-refused_write known m op (Stopped faults) word needs is = word_fits (on_table (write (write_of op))) why.Stopped word tt is
-refused_write known m op (Full need longest) word needs is = word_fits (on_table (write (write_of op))) why.Full word tt is
+refused_write known m op Fault word needs is = word_fits (on_table (write (write_of op))) why.Fault word (0, omega arith, refl) is
+refused_write known m op (Stopped faults) word needs is = word_fits (on_table (write (write_of op))) why.Stopped word (1, omega arith, refl) is
+refused_write known m op (Full need longest) word needs is = word_fits (on_table (write (write_of op))) why.Full word (2, omega arith, refl) is
 refused_write known m op (Again ops) word needs is = no_word (on_table (write (write_of op))) word is
 refused_write known m op NoIndex word needs is = absurd needs
-refused_write known m op (Damaged page) word needs is = word_fits (on_table (write (write_of op))) why.Damaged word tt is
-refused_write known m op OutOfMemory word needs is = word_fits (on_table (write (write_of op))) why.Memory word tt is
+refused_write known m op (Damaged page) word needs is = word_fits (on_table (write (write_of op))) why.Damaged word (3, omega arith, refl) is
+refused_write known m op OutOfMemory word needs is = word_fits (on_table (write (write_of op))) why.Memory word (4, omega arith, refl) is
 
 refused_get : (known : Bool) (m : Machine) (key : ℕ) (refusal : Refusal) (word : Why) → Needs known m (action.Get key (Err refusal)) → word_of refusal ≡ Some word → MayRefuse (on_table (get key)) word
-refused_get known m key Fault word needs is = word_fits (on_table (get key)) why.Fault word tt is
+refused_get known m key Fault word needs is = word_fits (on_table (get key)) why.Fault word (0, omega arith, refl) is
 refused_get known m key (Stopped faults) word needs is = absurd needs
 refused_get known m key (Full need longest) word needs is = absurd needs
 refused_get known m key (Again ops) word needs is = absurd needs
 refused_get known m key NoIndex word needs is = absurd needs
-refused_get known m key (Damaged page) word needs is = word_fits (on_table (get key)) why.Damaged word tt is
+refused_get known m key (Damaged page) word needs is = word_fits (on_table (get key)) why.Damaged word (1, omega arith, refl) is
 refused_get known m key OutOfMemory word needs is = absurd needs
 
 refused_region : (known : Bool) (m : Machine) (kind : IndexKind) (rect : Corners) (refusal : Refusal) (word : Why) → Needs known m (action.Region kind rect (Err refusal)) → word_of refusal ≡ Some word → MayRefuse (on_table (region kind rect)) word
-refused_region known m kind rect Fault word needs is = word_fits (on_table (region kind rect)) why.Fault word tt is
+refused_region known m kind rect Fault word needs is = word_fits (on_table (region kind rect)) why.Fault word (0, omega arith, refl) is
 refused_region known m kind rect (Stopped faults) word needs is = absurd needs
 refused_region known m kind rect (Full need longest) word needs is = absurd needs
 refused_region known m kind rect (Again ops) word needs is = absurd needs
-refused_region known m kind rect NoIndex word needs is = word_fits (on_table (region kind rect)) why.NoIndex word tt is
-refused_region known m kind rect (Damaged page) word needs is = word_fits (on_table (region kind rect)) why.Damaged word tt is
-refused_region known m kind rect OutOfMemory word needs is = word_fits (on_table (region kind rect)) why.Memory word tt is
+refused_region known m kind rect NoIndex word needs is = word_fits (on_table (region kind rect)) why.NoIndex word (1, omega arith, refl) is
+refused_region known m kind rect (Damaged page) word needs is = word_fits (on_table (region kind rect)) why.Damaged word (2, omega arith, refl) is
+refused_region known m kind rect OutOfMemory word needs is = word_fits (on_table (region kind rect)) why.Memory word (3, omega arith, refl) is
 
 -- the refusals of upkeep, as those of a flush
 refused_freeze : (known : Bool) (m : Machine) (least : ℕ) (refusal : Refusal) (word : Why) → Needs known m (action.Freeze least (Err refusal)) → word_of refusal ≡ Some word → MayRefuse flush word
-refused_freeze known m least Fault word needs is = word_fits flush why.Fault word tt is
-refused_freeze known m least (Stopped faults) word needs is = word_fits flush why.Stopped word tt is
+refused_freeze known m least Fault word needs is = word_fits flush why.Fault word (0, omega arith, refl) is
+refused_freeze known m least (Stopped faults) word needs is = word_fits flush why.Stopped word (1, omega arith, refl) is
 refused_freeze known m least (Full need longest) word needs is = absurd needs
 refused_freeze known m least (Again ops) word needs is = absurd needs
 refused_freeze known m least NoIndex word needs is = absurd needs
@@ -229,16 +229,16 @@ refused_freeze known m least OutOfMemory word needs is = absurd needs
 
 refused_begin : (known : Bool) (m : Machine) (refusal : Refusal) (word : Why) → Needs known m (action.Begin (Err refusal)) → word_of refusal ≡ Some word → MayRefuse flush word
 refused_begin known m Fault word needs is = absurd needs
-refused_begin known m (Stopped faults) word needs is = word_fits flush why.Stopped word tt is
-refused_begin known m (Full need longest) word needs is = word_fits flush why.Full word tt is
+refused_begin known m (Stopped faults) word needs is = word_fits flush why.Stopped word (1, omega arith, refl) is
+refused_begin known m (Full need longest) word needs is = word_fits flush why.Full word (2, omega arith, refl) is
 refused_begin known m (Again ops) word needs is = no_word flush word is
 refused_begin known m NoIndex word needs is = absurd needs
 refused_begin known m (Damaged page) word needs is = absurd needs
-refused_begin known m OutOfMemory word needs is = word_fits flush why.Memory word tt is
+refused_begin known m OutOfMemory word needs is = word_fits flush why.Memory word (3, omega arith, refl) is
 
 refused_step : (m : Machine) (refusal : Refusal) (word : Why) → RefusesStep m refusal → word_of refusal ≡ Some word → MayRefuse flush word
-refused_step m Fault word needs is = word_fits flush why.Fault word tt is
-refused_step m (Stopped faults) word needs is = word_fits flush why.Stopped word tt is
+refused_step m Fault word needs is = word_fits flush why.Fault word (0, omega arith, refl) is
+refused_step m (Stopped faults) word needs is = word_fits flush why.Stopped word (1, omega arith, refl) is
 refused_step m (Full need longest) word needs is = absurd needs
 refused_step m (Again ops) word needs is = absurd needs
 refused_step m NoIndex word needs is = absurd needs
@@ -276,18 +276,20 @@ refused_upkeep known m (action.Install own (Err given)) refusal word needs upkee
 
 -- what a flush may be refused for, a write may
 write_may : (w : Write) (word : Why) → MayRefuse flush word → MayRefuse (on_table (write w)) word
-write_may w why.Fault may = tt
-write_may w why.Stopped may = tt
-write_may w why.Full may = tt
-write_may w why.NoIndex may = absurd may
-write_may w why.Damaged may = absurd may
-write_may w why.Memory may = tt
+write_may w word (zero, below, is) = (0, omega arith, is)
+write_may w word (suc zero, below, is) = (1, omega arith, is)
+write_may w word (suc (suc zero), below, is) = (2, omega arith, is)
+write_may w word (suc (suc (suc zero)), below, is) = (4, omega arith, is)
+write_may w word (suc (suc (suc (suc k))), below, is) = absurd (omega (arith, below))
 
 -- the refusal of the last event, of upkeep alone
 last_may : (known : Bool) (m : Machine) (before : List Event) (last : Event) (word : Why) → IsRun known m (before ++ last ∷ []) → own (before ++ last ∷ []) ≡ [] → IsRefusedWith word last.action → MayRefuse flush word
 last_may known m before last word run none refused_is =
     let rest : IsRun known (after_all m before) (last ∷ []) = IsRun-second known m before (last ∷ []) run in
     refused_upkeep known (after_all m before) last.action refused_is.refusal word rest.0.needs (one-upkeep before last [] none) refused_is.is refused_is.word_is
+
+refused_flush : (known : Bool) (m : Machine) (word : Why) (es : List Event) → IsRun known m es → IsRefusedFlush word es → MayRefuse flush word
+refused_flush known m word es run is = last_may known m is.before is.last word (subst (IsRun known m) is.are run) (ap own (sym is.are) ∙ is.none) is.refused_is
 
 -- the own event of a command
 refused_one : (known : Bool) (m : Machine) (c : TableCommand) (o : Outcome) (word : Why) → o ≡ refused word → MayRefuse (on_table c) word → Done known m m (on_table c) o
@@ -360,20 +362,18 @@ carried_out : (known : Bool) (m : Machine) (c : Command) (o : Outcome) (es : Lis
 carried_out known m (on_table c) o es run (inl one) =
     let only : IsOnly known m (after_all m es) one.event = only-one known m es one.event run one.only in
     done-beside known m only.at (does one.event.action only.at) (after_all m es) (on_table c) o only.before (by_event known only.at one.event.action c o only.needs one.call) only.behind
-carried_out known m (on_table c) o es run (inr upkeep) =
-    let front : List Event = upkeep.before ++ upkeep.again ∷ upkeep.between in
-    let are : es ≡ front ++ upkeep.last ∷ [] = upkeep.are ∙ sym (append_assoc upkeep.before (upkeep.again ∷ upkeep.between) (upkeep.last ∷ [])) in
-    let may : MayRefuse flush upkeep.word =
-    last_may known m front upkeep.last upkeep.word (subst (IsRun known m) are run) (ap own (sym are) ∙ upkeep.none) upkeep.refused_is in
-    subst (λ (x : TableCommand). Done known m (after_all m es) (on_table x) o) (sym upkeep.command_is)
-    (subst (λ (x : Outcome). Done known m (after_all m es) (on_table (write (write_of upkeep.op))) x) (sym upkeep.outcome_is)
-    (upkeep_done known m es (on_table (write (write_of upkeep.op))) upkeep.word upkeep.none (write_may (write_of upkeep.op) upkeep.word may)))
+carried_out known m (on_table c) o es run (inr refusal) =
+    let is : IsRefusedFlush refusal.word es = refusal.upkeep in
+    let may : MayRefuse flush refusal.word = refused_flush known m refusal.word es run is in
+    subst (λ (x : TableCommand). Done known m (after_all m es) (on_table x) o) (sym refusal.command_is)
+    (subst (λ (x : Outcome). Done known m (after_all m es) (on_table (write (write_of refusal.op))) x) (sym refusal.outcome_is)
+    (upkeep_done known m es (on_table (write (write_of refusal.op))) refusal.word is.none (write_may (write_of refusal.op) refusal.word may)))
 carried_out known m flush (answered seq reply) es run impossible = absurd impossible
 carried_out known m flush quiet es run is =
     let same : IsSame m (after_all m es) = all-leave m es is.none in
     record { was = (tt, same.seq, same.table); logged = same.logged ∙ sym (append-nil m.logged) }
 carried_out known m flush (refused word) es run is =
-    upkeep_done known m es flush word is.none (last_may known m is.before is.last word (subst (IsRun known m) is.are run) (ap own (sym is.are) ∙ is.none) is.refused_is)
+    upkeep_done known m es flush word is.none (refused_flush known m word es run is)
 
 -- the numbers of a list that rises are at least this
 abbrev IsFrom : ℕ → List ℕ → Type 0

@@ -32,6 +32,6 @@ returns-clause-carried_out c = (
 
 pub returns-clause-put_to_be_made_again : goal.returns-clause-put_to_be_made_again
 returns-clause-put_to_be_made_again c outcome (inl one) = let nothing : ◌≡◌ {A = List Event} [] (one.event ∷ []) = one.only in cc
-returns-clause-put_to_be_made_again c outcome (inr upkeep) =
-    let count : 1 ≡ length (upkeep.before ++ upkeep.again ∷ (upkeep.between ++ upkeep.last ∷ [])) = ap (λ (es : List Event). length es) upkeep.are in
-    omega (arith, count, length-append upkeep.before (upkeep.again ∷ (upkeep.between ++ upkeep.last ∷ [])), length-append upkeep.between (upkeep.last ∷ []))
+returns-clause-put_to_be_made_again c outcome (inr refusal) =
+    let count : 1 ≡ length (refusal.upkeep.before ++ refusal.upkeep.last ∷ []) = ap (λ (es : List Event). length es) refusal.upkeep.are in
+    omega (arith, count, length-append refusal.upkeep.before (refusal.upkeep.last ∷ []), refusal.is_before.1)
