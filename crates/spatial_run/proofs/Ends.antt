@@ -8,7 +8,7 @@ use Rattle.spatial_run.specs.declared.record.Outcome as rust_outcome
 use Rattle.spatial_run.specs.Views.{outcomes_of}
 use Rattle.table_model.specs.Commands.{Command}
 use Rattle.table_model.specs.Phases.{Phases}
-use Rattle.table_model.specs.Record.{RunRecord}
+use Rattle.table_model.specs.Record.{RunRecord, Rises}
 use Rattle.store_machine.specs.Standing.{StoreState, StandsSince}
 use Rattle.store_machine.specs.Devices.{DeviceState}
 use Rattle.store_machine.specs.Calls.{IsReady}
@@ -20,6 +20,7 @@ use Rattle.spatial_run.specs.Endings.{Ending, bad_words, source_fault, bad_line,
 use Rattle.spatial_run.specs.Steps.{IsSetupAlone, IsPlain, MadeAll, OpenedOn}
 use Rattle.spatial_run.specs.Parts.{IsReadEnd, StoreRan, IsStoreEnd, IsRunEnd, FormatStopped, IsFormatEnd, IsFreshEnd, IsFinished}
 use Rattle.spatial_run.proofs.Making.{ran-on, ran-by-events, does-length}
+use Rattle.spatial_run.proofs.Plain.{through_setup}
 
 -- the bytes are a script
 has-script : (left : Option (List ℕ)) (s : Phases Command) → IsScript left (Ok s) → HasScript left
@@ -30,7 +31,7 @@ has-script (Some bytes) s is = (s, is)
 pub store-plain : (s : Phases Command) (r : RunRecord) (f : Refusals) (opened : StoreState) (device new : DeviceState) (acks : List ℕ) → IsSetupAlone s → OpenedOn device opened → StoreRan opened new acks s r f → IsPlain (ran s r f)
 store-plain s r f opened device new acks alone opens ran_it =
     let on : RanOn device new acks s r f = ran-on device new acks s r f opened ran_it.few alone opens ran_it in
-    (alone, ran_it.alone, on.fits.setup, on.fits.setup_rises)
+    (alone, ran_it.alone, on.fits.setup, subst Rises (through_setup r ran_it.alone) on.fits.through)
 
 pub run-end : (s : Phases Command) (device now new : DeviceState) (opened : StoreState) (acks : List ℕ) (e : Ending) → IsSetupAlone s → OpenedOn device opened → opened.device ≡ now → OnlyOpened device now
     → IsStoreEnd s opened new acks e → IsRunEnd s device new acks e

@@ -14,13 +14,13 @@ use Rattle.table_model.specs.Answers.{replay}
 use Rattle.table_model.specs.Commands.{Command, Outcome}
 use Rattle.table_model.specs.declared.Why.{Why}
 use Rattle.table_model.specs.Phases.{Phases}
-use Rattle.table_model.specs.Record.{RunRecord, HistoryAnswer, lane_answers, history, IsAnswered}
+use Rattle.table_model.specs.Record.{RunRecord, HistoryAnswer, lane_answers, history, IsAnswered, refused_word, refused_words}
 use Rattle.table_model.specs.Table.{Table}
 use Rattle.script_lang.specs.CommandViews.{command_of, commands_of}
 use Rattle.script_lang.specs.declared.commands.Command as rust_command
 use Rattle.primary_ix.specs.declared.rows.PrimRow.{PrimRow}
 use Rattle.store_machine.specs.Machine.{Machine, Opening, at_opening, after_all}
-use Rattle.store_machine.specs.Outcomes.{Group, logged_groups, refused_word, refused_words}
+use Rattle.store_machine.specs.Outcomes.{Group, logged_groups}
 use Rattle.store_machine.specs.Crash.{Keeps, attempted}
 use Rattle.store_machine.specs.Commands.{Does, DoesAll, words, stopped_group}
 use Rattle.store_machine.specs.Standing.{StoreState, Stands, StandsSince, Tells}

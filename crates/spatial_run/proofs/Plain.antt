@@ -1,13 +1,12 @@
 -- A run that has a setup alone: its history and its text.
 use Rattle.std.specs.Prelude.{◌≡◌, ℕ, ◌+◌, ◌<◌, cond, List, [], ◌∷◌, ◌++◌, length, map, All}
-use Rattle.std.specs.List.{flat_map}
+use Rattle.std.specs.List.{AllZip, flat_map}
 use Rattle.std.proofs.Common.{ap, sym, ◌∙◌, subst, arith, refl}
 use Rattle.std.proofs.lemmas.Bool.{lt-ltb}
 use Rattle.std.proofs.lemmas.List.{append-nil}
 use Rattle.table_model.specs.Commands.{Command, on_table, flush, Outcome, answered, quiet, refused}
 use Rattle.table_model.specs.Phases.{Phases}
-use Rattle.table_model.specs.Record.{RunRecord, HistoryAnswer, FitsScript, lane_answers, lanes_answers, all_answers, in_order, inserted, history, seqs, Rises, history_text, refusals_text, lanes_refusals_text, record_text, OneEach, OneEachLane, AllApart}
-use Rattle.store_machine.specs.Outcomes.{refused_words}
+use Rattle.table_model.specs.Record.{RunRecord, HistoryAnswer, FitsScript, lane_answers, lanes_answers, all_answers, in_order, inserted, history, seqs, Rises, history_text, refusals_text, lanes_refusals_text, record_text, OneEach, refused_words}
 use Rattle.spatial_run.specs.Refused.{record_words}
 use Rattle.spatial_run.specs.Steps.{IsSetupAlone, answers_text, answered_part}
 
@@ -27,8 +26,10 @@ answers_seqs [] (o ∷ os) each = absurd each
 answers_seqs (c ∷ cs) [] each = absurd each
 answers_seqs (on_table c ∷ cs) (answered seq reply ∷ os) each = ap (λ ns. seq ∷ ns) (answers_seqs cs os each.1)
 answers_seqs (flush ∷ cs) (answered seq reply ∷ os) each = absurd each.0
-answers_seqs (c ∷ cs) (quiet ∷ os) each = answers_seqs cs os each.1
-answers_seqs (c ∷ cs) (refused why ∷ os) each = answers_seqs cs os each.1
+answers_seqs (on_table c ∷ cs) (quiet ∷ os) each = absurd each.0
+answers_seqs (flush ∷ cs) (quiet ∷ os) each = answers_seqs cs os each.1
+answers_seqs (on_table c ∷ cs) (refused why ∷ os) each = answers_seqs cs os each.1
+answers_seqs (flush ∷ cs) (refused why ∷ os) each = answers_seqs cs os each.1
 
 history_text_of : (place : ℕ) (cs : List Command) (os : List Outcome) → OneEach cs os → history_text place (lane_answers 0 cs os) ≡ answers_text place os
 history_text_of place [] [] each = refl
@@ -36,8 +37,10 @@ history_text_of place [] (o ∷ os) each = absurd each
 history_text_of place (c ∷ cs) [] each = absurd each
 history_text_of place (on_table c ∷ cs) (answered seq reply ∷ os) each = ap (λ t. answered_part place (answered seq reply) ++ t) (history_text_of (place + 1) cs os each.1)
 history_text_of place (flush ∷ cs) (answered seq reply ∷ os) each = absurd each.0
-history_text_of place (c ∷ cs) (quiet ∷ os) each = history_text_of place cs os each.1
-history_text_of place (c ∷ cs) (refused why ∷ os) each = history_text_of place cs os each.1
+history_text_of place (on_table c ∷ cs) (quiet ∷ os) each = absurd each.0
+history_text_of place (flush ∷ cs) (quiet ∷ os) each = history_text_of place cs os each.1
+history_text_of place (on_table c ∷ cs) (refused why ∷ os) each = history_text_of place cs os each.1
+history_text_of place (flush ∷ cs) (refused why ∷ os) each = history_text_of place cs os each.1
 
 -- with no lanes and nothing after them the answers are those of the setup
 answers_alone : (s : Phases Command) (r : RunRecord) → IsSetupAlone s → all_answers s r ≡ lane_answers 0 s.setup r.setup
@@ -62,20 +65,17 @@ record_text_alone s r alone alone' one_each rises =
 nothing_all : {X : Type 0} (P : X → Type 0) (xs : List X) → xs ≡ [] → All P xs
 nothing_all P xs e = subst (All P) (sym e) (λ i d h. absurd (omega (arith, h)))
 
-nothing_after : (r : RunRecord) → IsSetupAlone r → flat_map seqs r.lanes ++ seqs r.after ≡ []
-nothing_after r alone = λ i. flat_map seqs (alone.0 i) ++ seqs (alone.1 i)
+pub through_setup : (r : RunRecord) → IsSetupAlone r → seqs (r.setup ++ r.after) ≡ seqs r.setup
+through_setup r alone = ap (λ os. seqs (r.setup ++ os)) alone.1 ∙ ap seqs (append-nil r.setup)
 
 pub fits_alone : (s : Phases Command) (r : RunRecord) → IsSetupAlone s → IsSetupAlone r → OneEach s.setup r.setup → Rises (seqs r.setup) → FitsScript s r
 fits_alone s r alone alone' one_each rises = record {
   setup = one_each;
-  lanes = subst (λ l. OneEachLane l r.lanes) (sym alone.0) (subst (λ l. OneEachLane [] l) (sym alone'.0) tt);
+  lanes = subst (λ l. AllZip OneEach l r.lanes) (sym alone.0) (subst (λ l. AllZip OneEach [] l) (sym alone'.0) tt);
   after = subst (λ l. OneEach l r.after) (sym alone.1) (subst (λ l. OneEach [] l) (sym alone'.1) tt);
-  setup_rises = rises;
-  lanes_rise = nothing_all (λ os. Rises (seqs os)) r.lanes alone'.0;
-  lanes_apart = subst (λ l. AllApart (map seqs l)) (sym alone'.0) tt;
-  after_rises = subst (λ os. Rises (seqs os)) (sym alone'.1) tt;
-  setup_first = λ i d h j e k. let none : j < 0 = subst (λ l. j < length l) (nothing_after r alone') k in absurd (omega (arith, none));
-  after_last = λ i d h j e k. let none : j < 0 = subst (λ os. j < length (seqs os)) alone'.1 k in absurd (omega (arith, none));
+  differ = subst Rises (sym (ap seqs_in (history_alone s r alone one_each rises) ∙ answers_seqs s.setup r.setup one_each)) rises;
+  around = nothing_all (λ os. Rises (seqs (r.setup ++ os ++ r.after))) r.lanes alone'.0;
+  through = subst Rises (sym (through_setup r alone')) rises;
 }
 
 -- the words of the commands that were refused

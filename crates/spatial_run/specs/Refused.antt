@@ -3,8 +3,7 @@ use Rattle.std.specs.Prelude.{ℕ, Bool, List, ◌++◌, nat_eq}
 use Rattle.std.specs.List.{list_any, flat_map}
 use Rattle.table_model.specs.declared.Why.{Why}
 use Rattle.table_model.specs.declared.Why.TheVariants.{Fault, Stopped, Full, NoIndex, Damaged, Memory}
-use Rattle.table_model.specs.Record.{RunRecord}
-use Rattle.store_machine.specs.Outcomes.{refused_words}
+use Rattle.table_model.specs.Record.{RunRecord, refused_words}
 use Rattle.spatial_run.specs.declared.outcomes.Refusals.{Refusals}
 
 -- the status of a refusal with this word

@@ -4,10 +4,9 @@ use Rattle.std.specs.Prelude.{◌≡◌, ℕ, ◌+◌, ◌||◌, List, [], ◌�
 use Rattle.table_model.specs.Commands.{Command, Outcome, answered, quiet, refused}
 use Rattle.table_model.specs.declared.Why.{Why}
 use Rattle.table_model.specs.Phases.{Phases}
-use Rattle.table_model.specs.Record.{OneEach, Rises, seqs}
+use Rattle.table_model.specs.Record.{OneEach, Rises, seqs, refused_words}
 use Rattle.table_model.specs.Text.{answer_text, refused_text}
 use Rattle.store_machine.specs.Commands.{DoesAll, words}
-use Rattle.store_machine.specs.Outcomes.{refused_words}
 use Rattle.store_machine.specs.Standing.{StoreState, StandsSince}
 use Rattle.store_machine.specs.Devices.{DeviceState}
 use Rattle.store_machine.specs.Calls.{IsReady}

@@ -3,8 +3,7 @@ ghost use Rattle.std.specs.Prelude.{◌≡◌, ◌+◌, ◌-◌, ◌^◌, ◌<�
 ghost use Rattle.std.specs.Option.{option_to_list};
 ghost use Rattle.dev_model.specs.Counts.{Counts};
 ghost use Rattle.dev_model.specs.Streams.{Says};
-ghost use Rattle.table_model.specs.Record.{refusals_text};
-ghost use Rattle.store_machine.specs.Outcomes.{refused_word};
+ghost use Rattle.table_model.specs.Record.{refused_word, refusals_text};
 ghost use Rattle.spatial_run.specs.Refused.{refusals_by};
 ghost use Rattle.spatial_run.specs.Views.{outcome_of, outcomes_of};
 ghost use Rattle.spatial_run.specs.Steps.{answers_text, answered_part, place_after, refused_part, with_command, with_upkeep};

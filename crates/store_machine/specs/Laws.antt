@@ -7,6 +7,7 @@ pub mod LogCalls
 pub mod Logging
 pub mod Opening
 pub mod Reading
+pub mod Since
 pub mod Stepping
 pub mod Steps
 pub mod Working

@@ -8,4 +8,5 @@ pub mod Machine
 pub mod Needs
 pub mod Outcomes
 pub mod Runs
+pub mod Since
 pub mod Standing

@@ -91,6 +91,7 @@ opens-from device now indexes log lists pages clock_told later reads opens kept 
               recovers = rest.rests.recovers;
               declared_is = is;
               kept = rest;
+              disk_is = refl;
             };
             calls = [];
             now = u;
