@@ -7,5 +7,4 @@ pub mod Making
 pub mod Since
 pub mod Faults
 pub mod Unfinished
-pub mod ByEvents
 pub mod Reopened

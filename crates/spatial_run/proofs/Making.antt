@@ -27,6 +27,8 @@ use Rattle.store_machine.specs.Standing.{StoreState, Stands, StandsSince, Tells}
 use Rattle.store_machine.specs.Devices.{DeviceState, HoldsTable}
 use Rattle.store_machine.specs.Calls.{IsReady}
 use Rattle.store_machine.specs.Laws.Steps.{Adds-none, Adds-then, since-adds}
+use Rattle.store_machine.specs.Laws.Since.{made-since}
+use Rattle.store_machine.specs.Since.{MadeSince}
 use Rattle.store_machine.specs.Laws.Histories.{IsHistory, history-is, unfinished-is, words-append}
 use Rattle.store_machine.specs.declared.events.Event.{Event}
 use Rattle.store_state.specs.Lists.{Lists}
@@ -232,14 +234,14 @@ module _ (device new : DeviceState) (acks : List ℕ) (s : Phases Command) (r : 
   }
 
   pub ran-by-events : RanByEvents device new acks s r f
+  unfolding ran-on
   ran-by-events = record {
-    ended = ran.ended;
+    ran_on = ran-on;
     events = es;
-    since = since;
+    made = subst (λ (d : DeviceState). MadeSince device d acks es) ran.device_is
+        (subst (λ (a : List ℕ). MadeSince device ran.ended.device a es) ran.acks_are (made-since device ran.ended es since));
     owned = ran.made.made.owned;
     does = ran.made.does;
-    device_is = ran.device_is;
-    acks_are = ran.acks_are;
     refused_for = refused_for;
-    from = ran-from;
+    unfinished_is = refl;
   }

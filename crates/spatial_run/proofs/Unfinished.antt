@@ -95,7 +95,7 @@ failed-one known m (on_table c) o es group run (inl one) fails =
     (λ is. subst (λ (g : Group). IsFailedWrite (on_table c) o g) (sym is.group_is) (failed-call c o is.op (subst (λ (a : Action). IsCall a c o) is.is one.call)))
     (λ no. absurd no)
     own_one
-failed-one known m (on_table c) o es group run (inr upkeep) fails = absurd (subst (λ (l : List Event). OwnFails l group) upkeep.none (own-fails known m es group run fails))
+failed-one known m (on_table c) o es group run (inr upkeep) fails = absurd (subst (λ (l : List Event). OwnFails l group) upkeep.upkeep.none (own-fails known m es group run fails))
 failed-one known m flush (answered seq reply) es group run impossible fails = absurd impossible
 failed-one known m flush quiet es group run is fails = absurd (subst (λ (l : List Event). OwnFails l group) is.none (own-fails known m es group run fails))
 failed-one known m flush (refused word) es group run is fails = absurd (subst (λ (l : List Event). OwnFails l group) is.none (own-fails known m es group run fails))

@@ -1,4 +1,5 @@
 pub mod ByEvents
+pub mod EndingViews
 pub mod Endings
 pub mod OnDevice
 pub mod Parts

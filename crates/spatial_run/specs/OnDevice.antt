@@ -22,7 +22,6 @@ use Rattle.store_machine.specs.Devices.{DeviceState, HoldsTable}
 use Rattle.store_machine.specs.Outcomes.{Group, logged_groups}
 use Rattle.spatial_run.specs.declared.outcomes.Refusals.{Refusals}
 use Rattle.spatial_run.specs.Refused.{record_words, refusals_by}
-use Rattle.spatial_run.specs.Tasks.{Task, format, serial, fresh}
 
 -- a crash left the store with this table, no store, or an empty one
 abbrev pub IsTableOrNone : (pages indexes : ℕ) → Table → Bytes → Type 0
@@ -37,12 +36,6 @@ pub record Formatting (indexes : ℕ) (old new : DeviceState) (result : Result (
   pub over_none : WhereTold old.story (λ s. HasNoStore s → LeavesOnly s new.story (IsNoneOrEmpty old.pages indexes))
   pub same_pages : new.pages ≡ old.pages
   pub cause : HasCause old.faults new.faults result
-
--- the device on which a script runs: as it was, or formatted
-abbrev pub Prepared : Task → (old device : DeviceState) → Type 0
-Prepared (format indexes) old device = ⊥
-Prepared serial old device = device ≡ old
-Prepared (fresh indexes) old device = Formatting indexes old device (Ok tt)
 
 -- The story went on from s by some calls, and each image of each moment since then has P.
 pub record LeavesOver (s : Story) (now : Option Story) (P : ℕ → Bytes → Type 0) : Type 0 where

@@ -6,28 +6,23 @@ use Rattle.dev_model.specs.declared.streams.Failed.{Failed}
 use Rattle.table_model.specs.Commands.{Command}
 use Rattle.table_model.specs.Phases.{Phases}
 use Rattle.table_model.specs.Record.{RunRecord}
-use Rattle.script_lang.specs.Scripts as script
 use Rattle.store_machine.specs.Standing.{StoreState}
 use Rattle.store_machine.specs.Devices.{DeviceState}
 use Rattle.store_machine.specs.Calls.{IsReady}
 use Rattle.spatial_run.specs.declared.outcomes.Refusals.{Refusals}
 use Rattle.spatial_run.specs.ByEvents.{FormattingBy, RanByEvents}
-use Rattle.spatial_run.specs.OnDevice.{OnlyOpened, NotOpened, RanOn}
-use Rattle.spatial_run.specs.Endings.{Ending, bad_words, source_fault, bad_line, too_long, no_memory, format_failed, formatted, not_opened, ran, IsScript, ending_text, status_of, record_of_ending}
+use Rattle.spatial_run.specs.OnDevice.{OnlyOpened, NotOpened}
+use Rattle.spatial_run.specs.Endings.{Ending, IsCause, source_fault, bad_script, no_memory, format_failed, formatted, not_opened, ran, IsScript, ending_text, status_of, record_of_ending}
 use Rattle.spatial_run.specs.Steps.{MadeAll}
+use Rattle.spatial_run.specs.Tasks.{Task}
 
 -- the script was read, or the call ends so
 abbrev pub IsReadEnd : (old new : ℕ) → Option (List ℕ) → Result (Phases Command) Ending → Type 0
 IsReadEnd old new left (Ok s) = (new ≡ old) × IsScript left (Ok s)
-IsReadEnd old new left (Err bad_words) = ⊥
 IsReadEnd old new left (Err source_fault) = Rose old new
-IsReadEnd old new left (Err (bad_line n)) = (new ≡ old) × IsScript left (Err (script.bad_line n))
-IsReadEnd old new left (Err too_long) = (new ≡ old) × IsScript left (Err script.too_long)
+IsReadEnd old new left (Err (bad_script wrong)) = (new ≡ old) × IsScript left (Err wrong)
 IsReadEnd old new left (Err no_memory) = new ≡ old
-IsReadEnd old new left (Err format_failed) = ⊥
-IsReadEnd old new left (Err (formatted pages)) = ⊥
-IsReadEnd old new left (Err (not_opened _)) = ⊥
-IsReadEnd old new left (Err (ran s r f)) = ⊥
+IsReadEnd old new left (Err other) = ⊥
 
 -- a script ran on a store that was opened
 pub record StoreRan (opened : StoreState) (new : DeviceState) (acks : List ℕ) (s : Phases Command) (r : RunRecord) (f : Refusals) : Type 0 where
@@ -40,27 +35,16 @@ pub record StoreRan (opened : StoreState) (new : DeviceState) (acks : List ℕ) 
   pub ready : IsReady ended
 
 abbrev pub IsStoreEnd : Phases Command → StoreState → DeviceState → List ℕ → Ending → Type 0
-IsStoreEnd s opened new acks bad_words = ⊥
-IsStoreEnd s opened new acks source_fault = ⊥
-IsStoreEnd s opened new acks (bad_line n) = ⊥
-IsStoreEnd s opened new acks too_long = ⊥
 IsStoreEnd s opened new acks no_memory = (opened.device ≡ new) × (opened.acks ≡ acks)
-IsStoreEnd s opened new acks format_failed = ⊥
-IsStoreEnd s opened new acks (formatted pages) = ⊥
-IsStoreEnd s opened new acks (not_opened _) = ⊥
 IsStoreEnd s opened new acks (ran t r f) = (t ≡ s) × StoreRan opened new acks s r f
+IsStoreEnd s opened new acks other = ⊥
 
 -- a script ran on the store of a device, or the store was not opened, or memory was refused
 abbrev pub IsRunEnd : Phases Command → (device new : DeviceState) → List ℕ → Ending → Type 0
-IsRunEnd s device new acks bad_words = ⊥
-IsRunEnd s device new acks source_fault = ⊥
-IsRunEnd s device new acks (bad_line n) = ⊥
-IsRunEnd s device new acks too_long = ⊥
 IsRunEnd s device new acks no_memory = OnlyOpened device new × (acks ≡ [])
-IsRunEnd s device new acks format_failed = ⊥
-IsRunEnd s device new acks (formatted pages) = ⊥
 IsRunEnd s device new acks (not_opened fault) = NotOpened device new fault × (acks ≡ [])
-IsRunEnd s device new acks (ran t r f) = (t ≡ s) × RanOn device new acks s r f × RanByEvents device new acks s r f
+IsRunEnd s device new acks (ran t r f) = (t ≡ s) × RanByEvents device new acks s r f
+IsRunEnd s device new acks other = ⊥
 
 -- a device could not be formatted
 pub record FormatStopped (indexes : ℕ) (old new : DeviceState) (acks : List ℕ) (e : Ending) : Type 0 where
@@ -94,3 +78,7 @@ pub record IsFinished (e : Ending) (sink_old sink_new : ℕ) (before after : Opt
   pub told : Says before after (ending_text e) sent
   pub is_status : status ≡ status_of e sent
   pub outcomes : r ≡ record_of_ending e
+
+-- why a call ends so, exactly
+pub record Cause (task : Option Task) (source_old source_new : ℕ) (left : Option (List ℕ)) (old new : DeviceState) (acks : List ℕ) (e : Ending) : Type 0 where
+  pub is : IsCause FormattingBy RanByEvents task source_old source_new left old new acks e

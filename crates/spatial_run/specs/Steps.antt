@@ -14,7 +14,7 @@ use Rattle.store_machine.specs.declared.events.Event.{Event}
 use Rattle.store_commands.specs.Commands.{Made}
 use Rattle.spatial_run.specs.declared.outcomes.Refusals.{Refusals}
 use Rattle.spatial_run.specs.Refused.{has_status, refusals_by}
-use Rattle.spatial_run.specs.Endings.{Ending, bad_words, source_fault, bad_line, too_long, no_memory, format_failed, formatted, not_opened, ran}
+use Rattle.spatial_run.specs.Endings.{Ending, ran}
 
 -- the store was opened on this device
 pub record OpenedOn (device : DeviceState) (opened : StoreState) : Type 0 where
@@ -77,12 +77,5 @@ IsSetupAlone s = (s.lanes ≡ []) × (s.after ≡ [])
 
 -- an ending whose text is that of the setup's outcomes alone
 abbrev pub IsPlain : Ending → Type 0
-IsPlain bad_words = Unit {0}
-IsPlain source_fault = Unit {0}
-IsPlain (bad_line n) = Unit {0}
-IsPlain too_long = Unit {0}
-IsPlain no_memory = Unit {0}
-IsPlain format_failed = Unit {0}
-IsPlain (formatted pages) = Unit {0}
-IsPlain (not_opened _) = Unit {0}
 IsPlain (ran s r f) = IsSetupAlone s × IsSetupAlone r × OneEach s.setup r.setup × Rises (seqs r.setup)
+IsPlain other = Unit {0}

@@ -7,12 +7,11 @@ ghost use Rattle.store_machine.specs.Devices.{DeviceState};
 ghost use Rattle.store_commands.specs.Commands.{IsServing};
 ghost use Rattle.store_core.specs.Stores.{state_of, device_of};
 ghost use Rattle.spatial_run.specs.Tasks as tasks;
-ghost use Rattle.spatial_run.specs.ByEvents.{IsByEvents};
-ghost use Rattle.spatial_run.specs.Endings.{IsCause};
 ghost use Rattle.spatial_run.specs.Endings as model;
-ghost use Rattle.spatial_run.specs.Views.{task_as, ending_of, outcomes_of};
+ghost use Rattle.spatial_run.specs.Views.{outcomes_of};
+ghost use Rattle.spatial_run.specs.EndingViews.{task_as, ending_of};
 ghost use Rattle.spatial_run.specs.Steps.{IsPlain, IsSetupAlone, OpenedOn};
-ghost use Rattle.spatial_run.specs.Parts.{IsFormatEnd, IsFreshEnd, IsRunEnd, IsStoreEnd, IsReadEnd};
+ghost use Rattle.spatial_run.specs.Parts.{Cause, IsFormatEnd, IsFreshEnd, IsRunEnd, IsStoreEnd, IsReadEnd};
 
 use crate::ending::Ending;
 use crate::record::{LaneOutcomes, OutcomeList, RunRecord};
@@ -156,8 +155,7 @@ fn read<R: Source>(alloc: Global, source: &mut R) -> Result<Script, Ending>
 fn run_serial<R: Source, D: Device>(alloc: Global, source: &mut R, device: D) -> Run<D>
     requires least { LEAST_PAGES ≤ D.pages device }
     requires most { D.pages device ≤ MOST_PAGES }
-    ensures cause { IsCause (Some tasks.serial) (R.fault_count source.old) (R.fault_count source.new) (R.left source.old) (device_of D.pages D.clock D.fault_count D.story device) (device_of D.pages D.clock D.fault_count D.story result.device) result.acks.items (ending_of result.ending) }
-    ensures events { IsByEvents (Some tasks.serial) (device_of D.pages D.clock D.fault_count D.story device) (device_of D.pages D.clock D.fault_count D.story result.device) result.acks.items (ending_of result.ending) }
+    ensures cause { Cause (Some tasks.serial) (R.fault_count source.old) (R.fault_count source.new) (R.left source.old) (device_of D.pages D.clock D.fault_count D.story device) (device_of D.pages D.clock D.fault_count D.story result.device) result.acks.items (ending_of result.ending) }
     ensures plain { IsPlain (ending_of result.ending) }
 {
     match read(alloc, source) {
@@ -175,13 +173,31 @@ fn run_fresh<R: Source, D: Device>(
 ) -> Run<D>
     requires least { LEAST_PAGES ≤ D.pages device }
     requires most { D.pages device ≤ MOST_PAGES }
-    ensures cause { IsCause (Some (tasks.fresh indexes)) (R.fault_count source.old) (R.fault_count source.new) (R.left source.old) (device_of D.pages D.clock D.fault_count D.story device) (device_of D.pages D.clock D.fault_count D.story result.device) result.acks.items (ending_of result.ending) }
-    ensures events { IsByEvents (Some (tasks.fresh indexes)) (device_of D.pages D.clock D.fault_count D.story device) (device_of D.pages D.clock D.fault_count D.story result.device) result.acks.items (ending_of result.ending) }
+    ensures cause { Cause (Some (tasks.fresh indexes)) (R.fault_count source.old) (R.fault_count source.new) (R.left source.old) (device_of D.pages D.clock D.fault_count D.story device) (device_of D.pages D.clock D.fault_count D.story result.device) result.acks.items (ending_of result.ending) }
     ensures plain { IsPlain (ending_of result.ending) }
 {
     match read(alloc, source) {
         Ok(script) => run_formatted(alloc, indexes, script, device),
         Err(ending) => without_commands(alloc, ending, device),
+    }
+}
+
+// Does a task that there is.
+fn run_one<R: Source, D: Device>(
+    alloc: Global,
+    task: Task,
+    source: &mut R,
+    device: D,
+) -> Run<D>
+    requires least { LEAST_PAGES ≤ D.pages device }
+    requires most { D.pages device ≤ MOST_PAGES }
+    ensures cause { Cause (Some (task_as task)) (R.fault_count source.old) (R.fault_count source.new) (R.left source.old) (device_of D.pages D.clock D.fault_count D.story device) (device_of D.pages D.clock D.fault_count D.story result.device) result.acks.items (ending_of result.ending) }
+    ensures plain { IsPlain (ending_of result.ending) }
+{
+    match task {
+        Task::Format(indexes) => format(alloc, indexes, device),
+        Task::Serial => run_serial(alloc, source, device),
+        Task::Fresh(indexes) => run_fresh(alloc, indexes, source, device),
     }
 }
 
@@ -194,14 +210,11 @@ pub(crate) fn run_task<R: Source, D: Device>(
 ) -> Run<D>
     requires least { LEAST_PAGES ≤ D.pages device }
     requires most { D.pages device ≤ MOST_PAGES }
-    ensures cause { IsCause (option_map task_as task) (R.fault_count source.old) (R.fault_count source.new) (R.left source.old) (device_of D.pages D.clock D.fault_count D.story device) (device_of D.pages D.clock D.fault_count D.story result.device) result.acks.items (ending_of result.ending) }
-    ensures events { IsByEvents (option_map task_as task) (device_of D.pages D.clock D.fault_count D.story device) (device_of D.pages D.clock D.fault_count D.story result.device) result.acks.items (ending_of result.ending) }
+    ensures cause { Cause (option_map task_as task) (R.fault_count source.old) (R.fault_count source.new) (R.left source.old) (device_of D.pages D.clock D.fault_count D.story device) (device_of D.pages D.clock D.fault_count D.story result.device) result.acks.items (ending_of result.ending) }
     ensures plain { IsPlain (ending_of result.ending) }
 {
-    match &task {
+    match task {
         None => without_commands(alloc, Ending::BadWords, device),
-        Some(Task::Format(indexes)) => format(alloc, *indexes, device),
-        Some(Task::Serial) => run_serial(alloc, source, device),
-        Some(Task::Fresh(indexes)) => run_fresh(alloc, *indexes, source, device),
+        Some(task) => run_one(alloc, task, source, device),
     }
 }

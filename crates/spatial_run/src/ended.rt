@@ -1,7 +1,8 @@
 // What a call of the program leaves.
 ghost use Rattle.std.specs.Prelude.{◌≡◌};
 ghost use Rattle.spatial_run.specs.Endings.{record_of_ending};
-ghost use Rattle.spatial_run.specs.Views.{record_of, ending_of};
+ghost use Rattle.spatial_run.specs.Views.{record_of};
+ghost use Rattle.spatial_run.specs.EndingViews.{ending_of};
 ghost use Rattle.spatial_run.specs.Steps.{IsPlain};
 ghost use Rattle.spatial_run.specs.Parts.{IsFinished};
 

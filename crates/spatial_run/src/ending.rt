@@ -1,10 +1,12 @@
 // How a call of the program ends: what it prints and its status.
-ghost use Rattle.std.specs.Prelude.{◌≡◌, ◌++◌, decimal, Result, is_err};
-ghost use Rattle.dev_model.specs.declared.streams.Failed.{Failed};
+ghost use Rattle.std.specs.Prelude.{◌≡◌, ◌++◌, decimal};
 ghost use Rattle.dev_model.specs.Counts.{Counts};
 ghost use Rattle.dev_model.specs.Streams.{Says};
-ghost use Rattle.spatial_run.specs.Endings.{status_of, fault_status, run_status, ending_text, fault_text};
-ghost use Rattle.spatial_run.specs.Views.{ending_of};
+ghost use Rattle.table_model.specs.Commands.{Command};
+ghost use Rattle.table_model.specs.Phases.{Phases};
+ghost use Rattle.table_model.specs.Record as model;
+ghost use Rattle.spatial_run.specs.Endings.{status_of, own_status, ending_text, not_opened, ran};
+ghost use Rattle.spatial_run.specs.EndingViews.{ending_of};
 ghost use Rattle.spatial_run.specs.Steps.{IsPlain};
 
 use crate::outcomes::{Refusals, print_outcomes};
@@ -44,7 +46,7 @@ fn print_number<K: Sink>(out: &mut K, front: &[u8], number: u64, end: &[u8]) -> 
 
 fn print_fault<K: Sink>(out: &mut K, fault: OpenFault) -> Result<(), Failed>
     ensures counts { Counts (K.fault_count out.old) (K.fault_count out.new) result }
-    ensures told { Says (K.taken out.old) (K.taken out.new) (fault_text fault) result }
+    ensures told { Says (K.taken out.old) (K.taken out.new) (ending_text (not_opened fault)) result }
 {
     match fault {
         OpenFault::NotFormatted => send_all(out, b"bad image: not formatted\n"),
@@ -74,18 +76,8 @@ pub(crate) fn print_ending<K: Sink>(out: &mut K, ending: &Ending) -> Result<(), 
     }
 }
 
-fn status_of_fault(fault: OpenFault, is_cut_off: bool) -> u8
-    ensures { (sent : Result (Unit {0}) Failed) → is_err sent ≡ is_cut_off → result ≡ fault_status fault sent }
-{
-    match fault {
-        OpenFault::NotFormatted | OpenFault::BadSlot(_) | OpenFault::BadLog(_) => 6,
-        OpenFault::Fault => 5,
-        OpenFault::OutOfMemory => { if is_cut_off { 4 } else { 8 } }
-    }
-}
-
-fn status_of_run(refusals: Refusals, is_cut_off: bool) -> u8
-    ensures { (sent : Result (Unit {0}) Failed) → is_err sent ≡ is_cut_off → result ≡ run_status refusals sent }
+fn status_of_run(refusals: Refusals) -> u8
+    ensures { (script : Phases Command) (outcomes : model.RunRecord) → result ≡ own_status (ran script outcomes refusals) }
 {
     if refusals.damaged {
         6
@@ -95,8 +87,6 @@ fn status_of_run(refusals: Refusals, is_cut_off: bool) -> u8
         7
     } else if refusals.no_index {
         9
-    } else if is_cut_off {
-        4
     } else if refusals.memory {
         8
     } else {
@@ -104,19 +94,29 @@ fn status_of_run(refusals: Refusals, is_cut_off: bool) -> u8
     }
 }
 
-/// The status of an ending whose text was sent or cut off.
-pub(crate) fn status(ending: &Ending, sent: Result<(), Failed>) -> u8
-    ensures { result ≡ status_of (ending_of ending.now) sent }
+fn own_status(ending: &Ending) -> u8
+    ensures { result ≡ own_status (ending_of ending.now) }
 {
-    let is_cut_off = sent.is_err();
     match ending {
         Ending::BadWords => 1,
         Ending::SourceFault => 3,
         Ending::BadLine(_) | Ending::TooLong => 2,
-        Ending::FormatFailed => 5,
-        Ending::NoMemory => { if is_cut_off { 4 } else { 8 } }
-        Ending::Formatted(_) => { if is_cut_off { 4 } else { 0 } }
-        Ending::NotOpened(fault) => status_of_fault(*fault, is_cut_off),
-        Ending::Ran(_, _, refusals) => status_of_run(*refusals, is_cut_off),
+        Ending::NotOpened(
+            OpenFault::NotFormatted | OpenFault::BadSlot(_) | OpenFault::BadLog(_),
+        ) => 6,
+        Ending::FormatFailed | Ending::NotOpened(OpenFault::Fault) => 5,
+        Ending::NoMemory | Ending::NotOpened(OpenFault::OutOfMemory) => 8,
+        Ending::Formatted(_) => 0,
+        Ending::Ran(_, _, refusals) => status_of_run(*refusals),
+    }
+}
+
+/// The status of an ending whose text was sent or cut off.
+pub(crate) fn status(ending: &Ending, sent: Result<(), Failed>) -> u8
+    ensures { result ≡ status_of (ending_of ending.now) sent }
+{
+    match own_status(ending) {
+        0 | 8 if sent.is_err() => 4,
+        status => status,
     }
 }

@@ -2,7 +2,7 @@
 ghost use Rattle.std.specs.Prelude.{◌≡◌, map};
 ghost use Rattle.std.specs.Option.{option_map};
 ghost use Rattle.spatial_run.specs.Tasks.{task_of, indexes_of, one_word, two_words};
-ghost use Rattle.spatial_run.specs.Views.{task_as};
+ghost use Rattle.spatial_run.specs.EndingViews.{task_as};
 
 use geo_base::IndexSet;
 

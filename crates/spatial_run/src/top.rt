@@ -2,7 +2,8 @@
 ghost use Rattle.std.specs.Prelude.{◌≤◌, Some, map};
 ghost use Rattle.space_map.specs.declared.space.TheConstants.{LEAST_PAGES, MOST_PAGES};
 ghost use Rattle.spatial_run.specs.Tasks.{task_of, serial};
-ghost use Rattle.spatial_run.specs.ByEvents.{EndsByEvents};
+ghost use Rattle.spatial_run.specs.OnDevice.{Formatting, RanOn};
+ghost use Rattle.spatial_run.specs.ByEvents.{FormattingBy, RanByEvents};
 ghost use Rattle.spatial_run.specs.Endings.{Ends, edges_of};
 ghost use Rattle.spatial_run.specs.Views.{record_of};
 
@@ -23,9 +24,9 @@ pub fn run_serial<R: Source, K: Sink, D: Device>(
 ) -> Ended<D>
     requires least { LEAST_PAGES ≤ D.pages device }
     requires most { D.pages device ≤ MOST_PAGES }
-    ensures headline { Ends (Some serial) (edges_of R.fault_count R.left K.fault_count K.taken D.pages D.clock D.fault_count D.story script.old script.new out.old out.new device result.device) result.status result.acks.items (record_of result.outcomes) }
+    ensures headline { Ends Formatting RanOn (Some serial) (edges_of R.fault_count R.left K.fault_count K.taken D.pages D.clock D.fault_count D.story script.old script.new out.old out.new device result.device) result.status result.acks.items (record_of result.outcomes) }
     // And it is so by a list of events of the store, with the device calls of each.
-    ensures events { EndsByEvents (Some serial) (edges_of R.fault_count R.left K.fault_count K.taken D.pages D.clock D.fault_count D.story script.old script.new out.old out.new device result.device) result.status result.acks.items (record_of result.outcomes) }
+    ensures events { Ends FormattingBy RanByEvents (Some serial) (edges_of R.fault_count R.left K.fault_count K.taken D.pages D.clock D.fault_count D.story script.old script.new out.old out.new device result.device) result.status result.acks.items (record_of result.outcomes) }
 {
     let run = run_task(alloc, Some(Task::Serial), script, device);
     finish(alloc, run, out)
@@ -51,9 +52,9 @@ pub fn run_top<R: Source, K: Sink, D: Device>(
     // What is printed is one history of a plain table, each command answered as the table answers at that place; a crash at any
     // moment leaves the table after the first of the writes, with every acknowledged one; and each ending and status has its
     // cause.
-    ensures headline { Ends (task_of (map (λ w. w.now) words.now)) (edges_of R.fault_count R.left K.fault_count K.taken D.pages D.clock D.fault_count D.story script.old script.new out.old out.new device result.device) result.status result.acks.items (record_of result.outcomes) }
+    ensures headline { Ends Formatting RanOn (task_of (map (λ w. w.now) words.now)) (edges_of R.fault_count R.left K.fault_count K.taken D.pages D.clock D.fault_count D.story script.old script.new out.old out.new device result.device) result.status result.acks.items (record_of result.outcomes) }
     // And it is so by a list of events of the store, with the device calls of each.
-    ensures events { EndsByEvents (task_of (map (λ w. w.now) words.now)) (edges_of R.fault_count R.left K.fault_count K.taken D.pages D.clock D.fault_count D.story script.old script.new out.old out.new device result.device) result.status result.acks.items (record_of result.outcomes) }
+    ensures events { Ends FormattingBy RanByEvents (task_of (map (λ w. w.now) words.now)) (edges_of R.fault_count R.left K.fault_count K.taken D.pages D.clock D.fault_count D.story script.old script.new out.old out.new device result.device) result.status result.acks.items (record_of result.outcomes) }
 {
     let run = run_task(alloc, task_of(words), script, device);
     finish(alloc, run, out)

@@ -1,7 +1,7 @@
 use Rattle.std.proofs.Common.{ap, inr, sym, subst, Ok, Err}
 use Rattle.store_core.specs.Stores.{device_of}
 use Rattle.spatial_run.specs.Parts.{IsFormatEnd}
-use Rattle.spatial_run.specs.Views.{ending_of}
+use Rattle.spatial_run.specs.EndingViews.{ending_of}
 use Rattle.spatial_run.proofs.Ends.{format-done}
 use Rattle.spatial_run.proofs.Fresh.{formatting-of, format-stopped}
 use Rattle.spatial_run.proofs.device.format.Goals as goal

@@ -2,7 +2,7 @@ use Rattle.std.proofs.Common.{ap, inl, inr, sym, subst, Ok, Err}
 use Rattle.script_lang.specs.CommandViews.{phases_of}
 use Rattle.store_core.specs.Stores.{device_of}
 use Rattle.spatial_run.specs.Parts.{IsFreshEnd}
-use Rattle.spatial_run.specs.Views.{ending_of}
+use Rattle.spatial_run.specs.EndingViews.{ending_of}
 use Rattle.spatial_run.proofs.Fresh.{formatting-of, format-stopped}
 use Rattle.spatial_run.proofs.device.run_formatted.Goals as goal
 

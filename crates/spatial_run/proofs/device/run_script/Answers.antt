@@ -1,7 +1,7 @@
 use Rattle.std.proofs.Common.{refl}
 use Rattle.script_lang.specs.CommandViews.{phases_of}
 use Rattle.store_core.specs.Stores.{state_of, device_of}
-use Rattle.spatial_run.specs.Views.{ending_of}
+use Rattle.spatial_run.specs.EndingViews.{ending_of}
 use Rattle.spatial_run.proofs.Ends.{run-end}
 use Rattle.spatial_run.proofs.Making.{serving-opened}
 use Rattle.spatial_run.proofs.device.run_script.Goals as goal

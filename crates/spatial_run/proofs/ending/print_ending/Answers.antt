@@ -3,7 +3,8 @@ use Rattle.dev_model.specs.declared.streams.Failed.{Failed}
 use Rattle.dev_model.specs.Laws.Chained.{says_same}
 use Rattle.table_model.specs.Record.{refusals_text}
 use Rattle.script_lang.specs.CommandViews.{phases_of}
-use Rattle.spatial_run.specs.Views.{outcomes_of, record_of, ending_of}
+use Rattle.spatial_run.specs.Views.{outcomes_of, record_of}
+use Rattle.spatial_run.specs.EndingViews.{ending_of}
 use Rattle.spatial_run.specs.Endings.{ending_text}
 use Rattle.spatial_run.specs.Endings as spec
 use Rattle.spatial_run.specs.Steps.{answers_text, IsPlain}
