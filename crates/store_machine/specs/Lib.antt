@@ -1,6 +1,7 @@
 pub mod Calls
 pub mod Commands
 pub mod Crash
+pub mod Damage
 pub mod Devices
 pub mod Examples
 pub mod Laws
