@@ -10,6 +10,7 @@ use Rattle.image_model.specs.Opening.{IsOpeningRange}
 use Rattle.component_image.specs.Recovered.{Opens, IsLookedAt, IsContent, Recovers}
 use Rattle.primary_ix.specs.declared.rows.PrimRow.{PrimRow}
 use Rattle.store_machine.specs.Crash.{attempted, Keeps}
+use Rattle.store_machine.specs.Damage.{DamagesAre}
 use Rattle.store_machine.specs.Outcomes.{after_groups}
 use Rattle.store_machine.specs.Devices.{DeviceState, HoldsTable}
 use Rattle.store_machine.specs.Machine.{Machine, Opening, at_opening, after_all}
@@ -80,7 +81,8 @@ pub record Tells (o : Opening) (store : StoreState) (m : Machine) : Type 0 where
   pub acked : AreUpTo (clock_of now) m.acks
   pub survives : EachMoment (clock_of opening) now (Keeps store.device.pages o.table (attempted m.logged m.unfinished) m.acks)
 
--- The store stands for the events, from this opening on: they are a run from there, and the store has the state after them.
+-- The store stands for the events, from this opening on: they are a run from there, the store has the state after them, and where the
+-- device tells, each page that was answered to be damaged was so.
 -- Where `known`, the device tells, all that an opening looks at and the components were on the disk, and the store could be opened
 -- from that.
 pub record Stands (known : Bool) (o : Opening) (store : StoreState) (events : List Event) : Type 0 where
@@ -88,6 +90,7 @@ pub record Stands (known : Bool) (o : Opening) (store : StoreState) (events : Li
   pub opened_faults : store.opened_faults ≡ o.faults
   pub run : IsRun known (at_opening o) events
   pub has : Has store (after_all (at_opening o) events)
+  pub damages : WhereTold store.device.story (λ s. DamagesAre (at_opening o) s events)
   pub tells : known ≡ true → Tells o store (after_all (at_opening o) events)
 
 -- The store stands for the events since it was opened on this device. The opening only read, and only where an opening looks; no

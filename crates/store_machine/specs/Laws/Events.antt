@@ -20,6 +20,8 @@ use Rattle.wal_log.specs.declared.log.Log.{Log}
 use Rattle.wal_log.specs.declared.records.Record.{Record}
 use Rattle.wal_log.specs.declared.records.LogOp.{LogOp}
 use Rattle.image_model.specs.Recovered.{write_of}
+use Rattle.store_machine.specs.Damage.{damaged_page}
+use Rattle.store_machine.specs.Laws.Damages.{IsCause, gone-same, gone-noted, gone-stopped, gone-then, no-cause}
 use Rattle.store_machine.specs.Laws.LogCalls.{append-calls, failed_calls, plan-length, StoppedBy, failed-by}
 use Rattle.store_machine.specs.Laws.Logging.{between, machine_between, between-has, between-tells, Logs, LogsAll, wrote_state, wrote_machine, wrote-tells, wrote-has, LogFails, failed_machine, failed_state, failed-has, failed-tells}
 use Rattle.store_machine.specs.Machine.{is_logged, Machine, Opening, does, group_of, after_event, after_logged, after_answer}
@@ -33,14 +35,14 @@ use Rattle.store_state.specs.Lists.{Lists}
 use Rattle.kept_state.specs.Reading.{IsLegible}
 use Rattle.store_machine.specs.Runs.{Way, way_to, AreReads, MakesCalls, MakesWrite, Allows, IsFront, IsOwned, Acknowledges, Stops, TakesTime, is_fault, log_calls}
 use Rattle.store_machine.specs.Laws.Steps.{makes, passes, event_of, GoesOn}
-use Rattle.store_machine.specs.Laws.Reading.{HasOnlyRead, IsPartBy, is_failed, read_calls, reads-go_on, reads-made, reads-time}
+use Rattle.store_machine.specs.Laws.Reading.{HasOnlyRead, gone-read, IsPartBy, is_failed, read_calls, reads-go_on, reads-made, reads-time}
 use Rattle.store_machine.specs.Laws.Working.{Works, works-go_on, works-time, WorkFails, stopped_calls, stopped_state, fails-go_on, fails-time, stays-there}
 use Rattle.store_machine.specs.declared.events.Action.{Action}
 use Rattle.store_machine.specs.declared.events.Action.TheVariants.{Write}
 use Rattle.store_machine.specs.declared.events.Event.{Event}
 
 -- What an action owes beside its calls where it is made by this owner, with these counts of faults: what it needs, whose job it is, what
--- it acknowledges, whether it stops the store, and the cause of a fault.
+-- it acknowledges, whether it stops the store, and the causes of a fault and of a damaged page.
 pub record Owes (old : StoreState) (now : DeviceState) (owner : ℕ) (action : Action) (failed : Bool) : Type 0 where
   pub needs : (known : Bool) (o : Opening) (m : Machine) → Has old m → (known ≡ true → Tells o old m) → Needs known m action
   pub owned : IsOwned action (Some owner)
@@ -49,6 +51,7 @@ pub record Owes (old : StoreState) (now : DeviceState) (owner : ℕ) (action : A
   pub faults : old.device.faults ≤ now.faults
   pub cause : is_fault action ≡ true → Rose old.device.faults now.faults
   pub time : old.device.clock ≤ now.clock
+  pub causes : WhereTold (damaged_page action) (IsCause old.lists now)
 
 allowed : (old : StoreState) (new : StoreState) (owner : ℕ) (action : Action) (made : List DeviceCall) (failed : Bool) → Owes old new.device owner action failed
     → (known : Bool) (o : Opening) (m : Machine) → Has old m → (known ≡ true → Tells o old m) → (known ≡ true → MakesCalls m action failed made)
@@ -89,6 +92,7 @@ reads-named old now way result pages seq owner action change reads owes done sam
       disk = λ d. d;
       done = done;
     })
+    (gone-read old now way result pages reads) owes.causes
     (λ known o m has tells. allowed old (record old { device = now; seq = seq }) owner action (read_calls old result pages) false owes known o m has tells
     (λ is_known. are m (read_calls old result pages) (reads-made o old now way result pages m reads has (tells is_known)))
     (λ _. subst (λ (failed : Bool). TakesTime failed m.clock (read_calls old result pages) now.clock) (sym fault) (reads-time old now way result pages m reads has)))
@@ -126,6 +130,7 @@ still-event old lists seq owner action owes done well none goes =
       disk = λ d. d;
       done = done;
     })
+    (gone-same old.device.story) owes.causes
     (λ known o m has tells. allowed old (record old { lists = lists; seq = seq }) owner action [] false owes known o m has tells (λ _. none m)
     (λ _. subst (λ (fault : Bool). TakesTime fault m.clock [] old.device.clock) (sym well) (let at : old.device.clock ≡ m.clock = has.clock in omega (arith, at))))
     goes
@@ -157,6 +162,7 @@ works-event old now log lists disk_after plan owner action pages works owes done
       disk = disk_after;
       done = done;
     })
+    (gone-noted plan old.device.story now.story works.did) owes.causes
     (λ known o m has tells. allowed old (record old { device = now; log = log; lists = lists }) owner action (ok_calls old.device.clock plan) false owes known o m has tells (λ _. are m has)
     (λ is_known. subst (λ (fault : Bool). TakesTime fault m.clock (ok_calls old.device.clock plan) now.clock) (sym well) (works-time o old (record old { device = now; log = log; lists = lists }) disk_after plan m works has (tells is_known))))
     (λ o m has t. works-go_on o old (record old { device = now; log = log; lists = lists }) disk_after plan m works has t)
@@ -184,6 +190,7 @@ fails-event old now plan owner action pages fails owes none fault same are =
       disk = λ d. d;
       done = λ m has. same m ∙ (λ i. record m { seq = sym has.seq i; log = sym has.log i; lists = sym has.lists i; table = m.table });
     })
+    (gone-stopped plan fails.planned old.device.story now.story fails.did) owes.causes
     (λ known o m has tells. allowed old (stopped_state old now) owner action (stopped_calls old now plan fails) true owes known o m has tells
     (λ is_known. let t : Tells o old m = tells is_known in are o m has t (failed-by old.device.story now.story plan fails.planned fails.did t.now t.told))
     (λ is_known. subst (λ (f : Bool). TakesTime f m.clock (stopped_calls old now plan fails) now.clock) (sym fault) (fails-time o old now plan m fails has (tells is_known))))
@@ -225,6 +232,7 @@ wrote-event old mid now row pages owner op r wrote log lists reads all is time r
     let new : StoreState = wrote_state (between old mid) now log lists wrote.ack in
     let e : Event = event_of old new owner (Write op (Ok wrote)) (read ++ made) false in
     makes old new owner (Write op (Ok wrote)) e (record { owner_is = refl; action_is = refl; before_it = refl; after_it = refl; time = refl }) refl refl
+    (gone-then old.device.story mid.story now.story (gone-read old mid (way_to (key_of op)) (Ok row) pages reads) (gone-noted (append_calls old.log r) mid.story now.story all.did)) (no-cause old.lists now)
     (λ known o m has tells.
     let mm : Machine = machine_between m mid read in
     let mid_has : Has (between old mid) mm = between-has old mid read m has in
@@ -287,6 +295,7 @@ write-failed old mid now row pages owner op r reads fails is rose time reads_tim
     let new : StoreState = failed_state (between old mid) now in
     let e : Event = event_of old new owner (Write op (Err Fault)) (read ++ made) true in
     makes old new owner (Write op (Err Fault)) e (record { owner_is = refl; action_is = refl; before_it = refl; after_it = refl; time = refl }) refl refl
+    (gone-then old.device.story mid.story now.story (gone-read old mid (way_to (key_of op)) (Ok row) pages reads) (gone-stopped plan tt mid.story now.story fails.did)) (no-cause old.lists now)
     (λ known o m has tells.
     let mm : Machine = machine_between m mid read in
     let mid_has : Has (between old mid) mm = between-has old mid read m has in

@@ -60,6 +60,7 @@ opens-from device now indexes log lists pages clock_told later reads opens kept 
     opened_faults = refl;
     run = tt;
     has = record { stopped = refl; seq = refl; log = refl; lists = refl; acks = refl; declared = refl; faults = refl; clock = refl; counted = refl; running = λ _. refl };
+    damages = λ s is. tt;
     tells = λ is. absurd (let no : false ≡ true = is in cc);
   };
   told = λ table s is holds.
@@ -81,6 +82,7 @@ opens-from device now indexes log lists pages clock_told later reads opens kept 
           opened_faults = refl;
           run = tt;
           has = record { stopped = refl; seq = refl; log = refl; lists = refl; acks = refl; declared = refl; faults = refl; clock = refl; counted = refl; running = λ _. refl };
+          damages = λ s is. tt;
           tells = λ _. record {
             opening = u;
             begins = record {

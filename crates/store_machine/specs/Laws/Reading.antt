@@ -1,6 +1,7 @@
 -- An event that only reads pages of the components. No public contract needs these laws.
 use Rattle.std.proofs.Common.{◌≡◌, ℕ, suc, ◌+◌, ◌-◌, ◌*◌, ◌^◌, ◌≤◌, Bool, true, false, nat_lt, if◌then◌else◌, IsTrue, All, List, [], ◌∷◌, ◌++◌, length, Option, Some, Result, Ok, Err, refl, sym, ◌∙◌, ap, subst, arith, append_assoc, append-nil}
 use Rattle.std.proofs.lemmas.List.Elements.{All-pop}
+use Rattle.std.proofs.lemmas.Option.{same_Some}
 use Rattle.dev_model.specs.Story.{Bytes, FailedCall, Story, after, clock_of, WhereTold}
 use Rattle.dev_model.specs.DeviceCalls.{made_at}
 use Rattle.dev_model.specs.Laws.CallLists.{clock_of-after}
@@ -15,13 +16,15 @@ use Rattle.tree_shape.specs.Given.{given}
 use Rattle.device_pages.specs.Asked.{Asked, Seen, calls_of}
 use Rattle.device_pages.specs.ReadsMade.{reads_made}
 use Rattle.device_pages.specs.Claims.{MadeReads}
-use Rattle.device_pages.specs.Laws.Asked.{clock-given}
+use Rattle.device_pages.specs.Laws.Asked.{clock-given, contents-asked}
 use Rattle.device_pages.specs.Lending.{contents_of, is_lent}
+use Rattle.primary_ix.specs.Pages.{IsDamagedIn}
 use Rattle.primary_ix.specs.Components.{AreRoots, AreShown}
 use Rattle.primary_ix.specs.declared.rows.PrimRow.{PrimRow}
 use Rattle.store_state.specs.Lists.{Lists, extents_of, trees_of}
 use Rattle.store_machine.specs.Crash.{attempted, Keeps, RecoversFirst}
 use Rattle.store_machine.specs.Laws.Counting.{acked_by-all}
+use Rattle.store_machine.specs.Laws.Damages.{HasGoneOn, IsCause, gone-noted}
 use Rattle.store_machine.specs.Outcomes.{Group}
 use Rattle.store_machine.specs.Machine.{Machine, Opening}
 use Rattle.store_machine.specs.Standing.{AreUpTo, StoreState, Has, Tells}
@@ -199,3 +202,19 @@ reads-go_on o old now way result pages seq m reads has t =
       survives = moments-reads (IsPageIn old.lists) (clock_of t.opening) t.now (after t.now made.calls) now.story (Keeps old.device.pages o.table (attempted m.logged m.unfinished) m.acks) stays.reads made.told begun
           (λ n image le keeps. keeps-later old.device.pages o.table (attempted m.logged m.unfinished) m.acks (clock_of t.now) n image t.acked le keeps) t.survives;
     }
+
+-- the story went on by the reads
+pub gone-read : {X : Type 0} (old : StoreState) (now : DeviceState) (way : Lists → Way) (result : Result X PageFault) (pages : List ℕ) → HasOnlyRead old now way result pages → HasGoneOn old.device.story now.story
+gone-read old now way result pages reads = gone-noted (calls_of old.device.clock (reads_of result pages)) old.device.story now.story reads.read.went.asked_for.told
+
+-- the page that was read last is damaged, by what the pages of the components held before the reads, which they hold after them too
+pub read-cause : {X : Type 0} (old : StoreState) (now : DeviceState) (way : Lists → Way) (page : ℕ) (pages : List ℕ) → HasOnlyRead {X = X} old now way (Err (Damaged page)) pages
+    → WhereTold (contents_of (extents_of old.lists.components) old.device.story) (λ contents. IsDamagedIn (trees_of old.lists.components) contents page) → WhereTold (Some page) (IsCause old.lists now)
+read-cause old now way page pages reads bad other is =
+    let extents : _ = extents_of old.lists.components in
+    let same : contents_of extents now.story ≡ contents_of extents old.device.story = contents-asked extents (given pages) (seen_of old.device) (seen_of now) reads.read.went.asked_for in
+    subst (λ (n : ℕ). IsCause old.lists now n) (same_Some _ _ is)
+    (record {
+      clock = reads.clock_told;
+      damaged = subst (λ (told : Option (ℕ → List ℕ)). WhereTold told (λ contents. IsDamagedIn (trees_of old.lists.components) contents page)) (sym same) bad;
+    })

@@ -1,6 +1,6 @@
 -- One event after another. No public contract needs these laws.
 use Rattle.std.proofs.Common.{◌≡◌, ℕ, ◌+◌, Bool, true, false, List, [], ◌∷◌, ◌++◌, length, refl, sym, ◌∙◌, ap, subst, arith, append_assoc, append-nil, Option, Some, None, if◌then◌else◌}
-use Rattle.dev_model.specs.Story.{Story, Calls, after, clock_of}
+use Rattle.dev_model.specs.Story.{Story, Calls, WhereTold, after, clock_of}
 use Rattle.dev_model.specs.Moments.{EachMoment}
 use Rattle.dev_model.specs.DeviceCalls.{ok_calls}
 use Rattle.dev_model.specs.Laws.Runs.{after-append}
@@ -9,7 +9,9 @@ use Rattle.dev_model.specs.declared.calls.DeviceCall.{DeviceCall}
 use Rattle.table_model.specs.Table.{Table, rows_of}
 use Rattle.primary_ix.specs.declared.rows.PrimRow.{PrimRow}
 use Rattle.store_machine.specs.Crash.{attempted, Keeps}
+use Rattle.store_machine.specs.Damage.{damaged_page}
 use Rattle.store_machine.specs.Laws.Counting.{AreUpTo-later}
+use Rattle.store_machine.specs.Laws.Damages.{HasGoneOn, IsCause, damages-add, cause-was}
 use Rattle.store_machine.specs.Outcomes.{Group}
 use Rattle.store_machine.specs.Machine.{Machine, Opening, does, group_of, at_opening, after_event, after_all}
 use Rattle.kept_state.specs.Keeping.{IsKept}
@@ -60,9 +62,10 @@ pub record Step (known : Bool) (o : Opening) (new : StoreState) (m : Machine) (e
 pub makes : (old new : StoreState) (owner : ℕ) (action : Action) (e : Event)
     → IsEventOf old.device new.device owner action e
     → new.opened_at ≡ old.opened_at → new.opened_faults ≡ old.opened_faults
+    → HasGoneOn old.device.story new.device.story → WhereTold (damaged_page action) (IsCause old.lists new.device)
     → ((known : Bool) (o : Opening) (m : Machine) → Has old m → (known ≡ true → Tells o old m) → Step known o new m e)
     → Makes old new owner action
-makes old new owner action e is opened_at opened_faults step =
+makes old new owner action e is opened_at opened_faults gone causes step =
     record {
       event = e;
       is = is;
@@ -75,6 +78,7 @@ makes old new owner action e is opened_at opened_faults step =
             opened_faults = opened_faults ∙ stands.opened_faults;
             run = IsRun-append known begin before (e ∷ []) stands.run (next.allows, tt);
             has = subst (λ (n : Machine). Has new n) same next.has;
+            damages = damages-add old.device.story new.device.story begin before e gone stands.damages (cause-was old new.device owner action e (after_all begin before) is stands.has causes);
             tells = λ is_known. subst (λ (n : Machine). Tells o new n) same (next.tells is_known);
           };
     }
@@ -211,12 +215,13 @@ module _ (old new : StoreState) (owner : ℕ) (action : Action) (made : List Dev
       })
 
   -- a call that leaves the table makes its event
-  pub passes : ((known : Bool) (o : Opening) (m : Machine) → Has old m → (known ≡ true → Tells o old m) → Allows known m event)
+  pub passes : HasGoneOn old.device.story new.device.story → WhereTold (damaged_page action) (IsCause old.lists new.device)
+      → ((known : Bool) (o : Opening) (m : Machine) → Has old m → (known ≡ true → Tells o old m) → Allows known m event)
       → ((o : Opening) (m : Machine) → Has old m → (t : Tells o old m) → GoesOn o old new m t (change.disk m.disk) made)
       → ((o : Opening) (m : Machine) → Has old m → (t : Tells o old m) → change.table m.table ≡ m.table)
       → Makes old new owner action
-  passes allows goes same =
-      makes old new owner action event (record { owner_is = refl; action_is = refl; before_it = refl; after_it = refl; time = refl }) change.opened_at change.opened_faults
+  passes gone causes allows goes same =
+      makes old new owner action event (record { owner_is = refl; action_is = refl; before_it = refl; after_it = refl; time = refl }) change.opened_at change.opened_faults gone causes
       (λ known o m has tells. record {
         allows = allows known o m has tells;
         has = subst (λ (n : Machine). Has new n) (next-is m has) (next-has m has);
