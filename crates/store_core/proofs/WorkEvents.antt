@@ -35,6 +35,8 @@ use Rattle.kept_state.specs.Reading.{IsLegible}
 use Rattle.store_machine.specs.Machine.{Machine, Opening, does, log_turned, row_of}
 use Rattle.store_machine.specs.Needs.{IsWriting, IsWrittenOut, MayFreeze, Needs, RefusesBegin}
 use Rattle.store_machine.specs.Runs.{Acknowledges, IsFront, IsOwned, MakesCalls, Stops, is_fault}
+use Rattle.store_machine.specs.Damage.{damaged_page}
+use Rattle.store_machine.specs.Laws.Damages.{no-cause}
 use Rattle.store_machine.specs.Laws.Events.{Owes, still-event, stays-go_on, works-event, fails-event}
 use Rattle.store_machine.specs.Laws.LogCalls.{IsPlan-turn}
 use Rattle.store_machine.specs.Laws.Working.{LeavesTable, WorkFails, stays-there, stopped_calls, stopped_state}
@@ -48,9 +50,9 @@ renamed : (old : StoreState) (m : Machine) → Has old m → m ≡ record m { se
 renamed old m has i = record m { seq = sym has.seq i; log = sym has.log i; lists = sym has.lists i; table = m.table }
 
 -- a call that changes nothing, and makes no device call
-nothing : (s : StoreState) (owner : ℕ) (a : Action) → IsOwned a (Some owner) → Acknowledges a s.device.clock → Stops a false → is_fault a ≡ false
+nothing : (s : StoreState) (owner : ℕ) (a : Action) → IsOwned a (Some owner) → Acknowledges a s.device.clock → Stops a false → is_fault a ≡ false → damaged_page a ≡ None
     → ((m : Machine) → does a m ≡ m) → ((m : Machine) → MakesCalls m a false []) → ((known : Bool) (m : Machine) → Has s m → Needs known m a) → Makes s s owner a
-nothing s owner a owned acks stops no_fault same none needs =
+nothing s owner a owned acks stops no_fault sound same none needs =
     still-event s s.lists s.seq owner a
     (record {
       needs = λ known o m has tells. needs known m has;
@@ -60,6 +62,7 @@ nothing s owner a owned acks stops no_fault same none needs =
       faults = omega arith;
       cause = λ fault. absurd (let no : true ≡ false = sym fault ∙ no_fault in cc);
       time = omega arith;
+      causes = no-cause s.lists s.device a sound;
     })
     (λ m has. same m ∙ renamed s m has)
     no_fault none
@@ -74,9 +77,9 @@ pub record IsStep (old : StoreState) (now : DeviceState) : Type 0 where
   pub time : old.device.clock ≤ now.clock
 
 -- what is owed of a step that was answered, and of one that failed
-answered : (old : StoreState) (now : DeviceState) (owner : ℕ) (a : Action) → IsStep old now → IsOwned a (Some owner) → Acknowledges a now.clock → Stops a false → is_fault a ≡ false
+answered : (old : StoreState) (now : DeviceState) (owner : ℕ) (a : Action) → IsStep old now → IsOwned a (Some owner) → Acknowledges a now.clock → Stops a false → is_fault a ≡ false → damaged_page a ≡ None
     → ((known : Bool) (m : Machine) → Has old m → Needs known m a) → Owes old now owner a false
-answered old now owner a step owned acks stops no_fault needs = record {
+answered old now owner a step owned acks stops no_fault sound needs = record {
   needs = λ known o m has tells. needs known m has;
   owned = owned;
   acks = acks;
@@ -84,11 +87,12 @@ answered old now owner a step owned acks stops no_fault needs = record {
   faults = step.faults;
   cause = λ fault. absurd (let no : true ≡ false = sym fault ∙ no_fault in cc);
   time = step.time;
+  causes = no-cause old.lists now a sound;
 }
 
-failed : (old : StoreState) (now : DeviceState) (owner : ℕ) (a : Action) → IsStep old now → IsOwned a (Some owner) → Acknowledges a now.clock → Stops a true → Rose old.device.faults now.faults
+failed : (old : StoreState) (now : DeviceState) (owner : ℕ) (a : Action) → IsStep old now → IsOwned a (Some owner) → Acknowledges a now.clock → Stops a true → damaged_page a ≡ None → Rose old.device.faults now.faults
     → ((known : Bool) (m : Machine) → Has old m → Needs known m a) → Owes old now owner a true
-failed old now owner a step owned acks stops rose needs = record {
+failed old now owner a step owned acks stops sound rose needs = record {
   needs = λ known o m has tells. needs known m has;
   owned = owned;
   acks = acks;
@@ -96,6 +100,7 @@ failed old now owner a step owned acks stops rose needs = record {
   faults = step.faults;
   cause = λ _. rose;
   time = step.time;
+  causes = no-cause old.lists now a sound;
 }
 
 -- the clock of the story is that of the machine
@@ -127,11 +132,11 @@ may-freeze old least may m has = record {
 
 pub freeze-stopped : (s : StoreState) (owner least faults : ℕ) → s.stopped ≡ Some faults → Makes s s owner (Freeze least (Err (Stopped faults)))
 freeze-stopped s owner least faults is =
-    nothing s owner (Freeze least (Err (Stopped faults))) tt tt refl refl (λ m. refl) (λ m. refl) (λ known m has. sym has.stopped ∙ is)
+    nothing s owner (Freeze least (Err (Stopped faults))) tt tt refl refl refl (λ m. refl) (λ m. refl) (λ known m has. sym has.stopped ∙ is)
 
 pub not-frozen : (s : StoreState) (owner least : ℕ) → s.stopped ≡ None → (s.log.records < least) ⊎ (s.lists.frozen ≢ None) → Makes s s owner (Freeze least (Ok false))
 not-frozen s owner least going why =
-    nothing s owner (Freeze least (Ok false)) tt tt refl refl (λ m. refl) (λ m. refl) (λ known m has. (sym has.stopped ∙ going, there m has why))
+    nothing s owner (Freeze least (Ok false)) tt tt refl refl refl (λ m. refl) (λ m. refl) (λ known m has. (sym has.stopped ∙ going, there m has why))
   where
     there : (m : Machine) → Has s m → (s.log.records < least) ⊎ (s.lists.frozen ≢ None) → (m.log.records < least) ⊎ (m.lists.frozen ≢ None)
     there m has (inl few) = inl (subst (λ (l : Log). l.records < least) has.log few)
@@ -146,7 +151,7 @@ pub froze : (old : StoreState) (now : DeviceState) (log : Log) (lists : Lists) (
 froze old now log lists owner least step may did kept legible log_is lists_is =
     works-event old now log lists (λ d. d) (turn_calls old.log) owner (Freeze least (Ok true)) step.pages
     (record { going = step.going; leaves = step.leaves; planned = IsPlan-turn old.log; did = did; kept = kept; legible = λ table disk s told kept. legible table disk s told; rows = ap (λ (l : Lists). l.rows) lists_is })
-    (answered old now owner (Freeze least (Ok true)) step tt tt refl refl (λ known m has. may-freeze old least may m has))
+    (answered old now owner (Freeze least (Ok true)) step tt tt refl refl refl (λ known m has. may-freeze old least may m has))
     (λ m has.
     (λ i. record m { seq = sym has.seq i; log = log_turned (sym has.log i); lists = frozen_at ((sym has.log i).next_lsn - 1) (sym has.lists i); table = m.table })
     ∙ (λ i. record m { seq = old.seq; log = sym log_is i; lists = sym lists_is i; table = m.table }))
@@ -166,12 +171,12 @@ freeze-failed old new now owner least is step may stopped legible rose =
     let fails : WorkFails old now plan = record { going = step.going; leaves = step.leaves; planned = IsPlan-turn old.log; did = stopped; legible = legible } in
     subst (λ (s : StoreState). Makes old s owner (Freeze least (Err Fault))) (sym is)
     (fails-event old now plan owner (Freeze least (Err Fault)) step.pages fails
-    (failed old now owner (Freeze least (Err Fault)) step tt tt refl rose (λ known m has. may-freeze old least may m has))
+    (failed old now owner (Freeze least (Err Fault)) step tt tt refl refl rose (λ known m has. may-freeze old least may m has))
     refl refl (λ m. refl)
     (λ o m has t by. subst (λ (all : List DeviceCall). IsFront all (stopped_calls old now plan fails)) (λ i. ok_calls (same-clock o old m has t i) (turn_calls (has.log i))) by.front))
 
 pub begin-stopped : (s : StoreState) (owner faults : ℕ) → s.stopped ≡ Some faults → Makes s s owner (Begin (Err (Stopped faults)))
-begin-stopped s owner faults is = nothing s owner (Begin (Err (Stopped faults))) tt tt refl refl (λ m. refl) (λ m. refl) (λ known m has. sym has.stopped ∙ is)
+begin-stopped s owner faults is = nothing s owner (Begin (Err (Stopped faults))) tt tt refl refl refl (λ m. refl) (λ m. refl) (λ known m has. sym has.stopped ∙ is)
 
 -- a begun job leaves what is kept, and what can be read
 pub record LeavesKept (old : StoreState) : Type 0 where
@@ -182,7 +187,7 @@ pub began : (old : StoreState) (lists : Lists) (owner : ℕ) (job : Option Job) 
     → Makes old (record old { lists = lists }) owner (begin_of owner (Ok job))
 began old lists owner None going begins leaves =
     subst (λ (l : Lists). Makes old (record old { lists = l }) owner (Begin (Ok None))) (sym begins.1)
-    (nothing old owner (Begin (Ok None)) tt tt refl refl (λ m. refl) (λ m. refl) (λ known m has. (sym has.stopped ∙ going, ap (λ (l : Lists). l.frozen) (sym has.lists) ∙ begins.0)))
+    (nothing old owner (Begin (Ok None)) tt tt refl refl refl (λ m. refl) (λ m. refl) (λ known m has. (sym has.stopped ∙ going, ap (λ (l : Lists). l.frozen) (sym has.lists) ∙ begins.0)))
 began old lists owner (Some job) going begins leaves =
     let row : JobRow = fresh owner job.plan in
     let own : OwnedJob = record { owner = owner; job = job } in
@@ -196,6 +201,7 @@ began old lists owner (Some job) going begins leaves =
       faults = omega arith;
       cause = λ fault. absurd (let no : true ≡ false = sym fault in cc);
       time = omega arith;
+      causes = no-cause old.lists old.device (Begin (Ok (Some own))) refl;
     })
     (λ m has. λ i. record m { seq = sym has.seq i; log = sym has.log i; lists = begun row (sym has.lists i); table = m.table })
     refl (λ m. refl)
@@ -222,11 +228,11 @@ begin-refuses old lists owner ops begin.OutOfMemory going begins ops_is m has =
     )
 
 begin-nothing : (old : StoreState) (owner ops : ℕ) (fault : BeginFault) → ((m : Machine) → Has old m → RefusesBegin m (refusal_of_begin ops fault)) → Makes old old owner (Begin (Err (refusal_of_begin ops fault)))
-begin-nothing old owner ops begin.Held refuses = nothing old owner (Begin (Err (refusal_of_begin ops begin.Held))) tt tt refl refl (λ m. refl) (λ m. refl) (λ known m has. refuses m has)
+begin-nothing old owner ops begin.Held refuses = nothing old owner (Begin (Err (refusal_of_begin ops begin.Held))) tt tt refl refl refl (λ m. refl) (λ m. refl) (λ known m has. refuses m has)
 begin-nothing old owner ops (begin.Full need longest) refuses =
-    nothing old owner (Begin (Err (refusal_of_begin ops (begin.Full need longest)))) tt tt refl refl (λ m. refl) (λ m. refl) (λ known m has. refuses m has)
+    nothing old owner (Begin (Err (refusal_of_begin ops (begin.Full need longest)))) tt tt refl refl refl (λ m. refl) (λ m. refl) (λ known m has. refuses m has)
 begin-nothing old owner ops begin.OutOfMemory refuses =
-    nothing old owner (Begin (Err (refusal_of_begin ops begin.OutOfMemory))) tt tt refl refl (λ m. refl) (λ m. refl) (λ known m has. refuses m has)
+    nothing old owner (Begin (Err (refusal_of_begin ops begin.OutOfMemory))) tt tt refl refl refl (λ m. refl) (λ m. refl) (λ known m has. refuses m has)
 
 pub begin-refused : (old : StoreState) (lists : Lists) (owner ops : ℕ) (fault : BeginFault) → old.stopped ≡ None → Begins owner old.lists lists (Err fault) → ops ≡ old.log.records
     → Makes old (record old { lists = lists }) owner (Begin (Err (refusal_of_begin ops fault)))
@@ -244,7 +250,7 @@ is-writing old owner job its left m has = record { begun = subst (λ (l : Lists)
 pub write-stopped : (s : StoreState) (owner faults : ℕ) (job : Job) → IsJobOf s.lists owner job → 0 < steps_left job → s.stopped ≡ Some faults
     → Makes s s owner (JobWrite (record { owner = owner; job = job }) (Err (Stopped faults)))
 write-stopped s owner faults job its left is =
-    nothing s owner (JobWrite (record { owner = owner; job = job }) (Err (Stopped faults))) refl tt refl refl (λ m. refl) (λ m. refl)
+    nothing s owner (JobWrite (record { owner = owner; job = job }) (Err (Stopped faults))) refl tt refl refl refl (λ m. refl) (λ m. refl)
     (λ known m has. (is-writing s owner job its left m has, sym has.stopped ∙ is))
 
 pub wrote-page : (old : StoreState) (now : DeviceState) (lists : Lists) (owner : ℕ) (job : Job) (bytes : List ℕ) → IsStep old now → IsJobOf old.lists owner job → 0 < steps_left job
@@ -256,7 +262,7 @@ wrote-page old now lists owner job bytes step its left wide did kept legible lis
     let own : OwnedJob = record { owner = owner; job = job } in
     works-event old now old.log lists (λ d. d) (Write ((job.plan.extent.first + job.written) * PAGE_BYTES) bytes ∷ []) owner (JobWrite own (Ok tt)) step.pages
     (record { going = step.going; leaves = step.leaves; planned = tt; did = did; kept = kept; legible = λ table disk s told kept. legible table disk s told; rows = ap (λ (l : Lists). l.rows) lists_is })
-    (answered old now owner (JobWrite own (Ok tt)) step refl tt refl refl (λ known m has. (sym has.stopped ∙ step.going, is-writing old owner job its left m has)))
+    (answered old now owner (JobWrite own (Ok tt)) step refl tt refl refl refl (λ known m has. (sym has.stopped ∙ step.going, is-writing old owner job its left m has)))
     (λ m has.
     (λ i. record m { seq = sym has.seq i; log = sym has.log i; lists = one_written (sym has.lists i); table = m.table })
     ∙ (λ i. record m { seq = old.seq; log = old.log; lists = sym lists_is i; table = m.table }))
@@ -279,7 +285,7 @@ page-failed old new now owner job at bytes is step its left stopped legible rose
     let fails : WorkFails old now plan = record { going = step.going; leaves = step.leaves; planned = tt; did = stopped; legible = legible } in
     subst (λ (s : StoreState). Makes old s owner (JobWrite own (Err Fault))) (sym is)
     (fails-event old now plan owner (JobWrite own (Err Fault)) step.pages fails
-    (failed old now owner (JobWrite own (Err Fault)) step refl tt refl rose (λ known m has. (is-writing old owner job its left m has, sym has.stopped ∙ step.going)))
+    (failed old now owner (JobWrite own (Err Fault)) step refl tt refl refl rose (λ known m has. (is-writing old owner job its left m has, sym has.stopped ∙ step.going)))
     refl refl (λ m. refl)
     (λ o m has t by. no-calls _ (stopped_calls old now plan fails) by.front))
 
@@ -295,7 +301,7 @@ is-written_out old owner job its lists done m has =
 pub install-stopped : (s : StoreState) (owner faults : ℕ) (job : Job) → IsJobOf s.lists owner job → IsLists s.lists → steps_left job ≡ 0 → s.stopped ≡ Some faults
     → Makes s s owner (Install (record { owner = owner; job = job }) (Err (Stopped faults)))
 install-stopped s owner faults job its lists done is =
-    nothing s owner (Install (record { owner = owner; job = job }) (Err (Stopped faults))) refl tt refl refl (λ m. refl) (λ m. refl)
+    nothing s owner (Install (record { owner = owner; job = job }) (Err (Stopped faults))) refl tt refl refl refl (λ m. refl) (λ m. refl)
     (λ known m has. (is-written_out s owner job its lists done m has, sym has.stopped ∙ is))
 
 pub was-installed : (old : StoreState) (now : DeviceState) (lists : Lists) (owner : ℕ) (job : Job) → IsStep old now → (its : IsJobOf old.lists owner job) → IsLists old.lists → steps_left job ≡ 0
@@ -309,7 +315,7 @@ was-installed old now lists owner job step its sound done did kept legible lists
     let after_it : lists ≡ installed (row_of own) old.lists = lists_is ∙ ap (λ (row : JobRow). installed row old.lists) (own-row old.lists owner job its) in
     works-event old now old.log lists (λ d. job.rows ∷ d) (install_calls job.plan.slot (described job)) owner (Install own (Ok tt)) step.pages
     (record { going = step.going; leaves = step.leaves; planned = tt; did = did; kept = kept; legible = legible; rows = ap (λ (l : Lists). l.rows) lists_is })
-    (answered old now owner (Install own (Ok tt)) step refl tt refl refl (λ known m has. (sym has.stopped ∙ step.going, is-written_out old owner job its sound done m has)))
+    (answered old now owner (Install own (Ok tt)) step refl tt refl refl refl (λ known m has. (sym has.stopped ∙ step.going, is-written_out old owner job its sound done m has)))
     (λ m has.
     (λ i. record m { seq = sym has.seq i; log = sym has.log i; lists = installed (row_of own) (sym has.lists i); disk = job.rows ∷ m.disk; table = m.table })
     ∙ (λ i. record m { seq = old.seq; log = old.log; lists = sym after_it i; disk = job.rows ∷ m.disk; table = m.table }))
@@ -325,6 +331,6 @@ install-failed old new now owner job is step its sound done stopped legible rose
     let fails : WorkFails old now plan = record { going = step.going; leaves = step.leaves; planned = tt; did = stopped; legible = legible } in
     subst (λ (s : StoreState). Makes old s owner (Install own (Err Fault))) (sym is)
     (fails-event old now plan owner (Install own (Err Fault)) step.pages fails
-    (failed old now owner (Install own (Err Fault)) step refl tt refl rose (λ known m has. (is-written_out old owner job its sound done m has, sym has.stopped ∙ step.going)))
+    (failed old now owner (Install own (Err Fault)) step refl tt refl refl rose (λ known m has. (is-written_out old owner job its sound done m has, sym has.stopped ∙ step.going)))
     refl refl (λ m. refl)
     (λ o m has t by. subst (λ (all : List DeviceCall). IsFront all (stopped_calls old now plan fails)) (λ i. ok_calls (same-clock o old m has t i) (install_calls job.plan.slot (described job))) by.front))

@@ -26,12 +26,15 @@ use Rattle.store_machine.specs.declared.events.Refusal.{Refusal}
 use Rattle.store_machine.specs.declared.events.Refusal.TheVariants.{Fault, Stopped, Full, Again, NoIndex, Damaged, OutOfMemory}
 use Rattle.kept_state.specs.Writing.{next_record}
 use Rattle.store_machine.specs.Runs.{way_to, MakesCalls, Stops, is_fault}
+use Rattle.store_machine.specs.Damage.{damaged_page}
+use Rattle.store_machine.specs.Laws.Damages.{no-cause}
+use Rattle.store_machine.specs.Laws.Reading.{read-cause}
 use Rattle.store_machine.specs.Laws.Events.{still-event, stays-go_on, reads-event, reads-named, wrote-event, write-failed}
 use Rattle.store_machine.specs.Laws.Logging.{between, LogsAll, wrote_state}
 use Rattle.store_machine.specs.declared.events.Action.TheVariants.{Write}
 use Rattle.store_core.specs.Refusals.{refusal_of}
 use Rattle.store_core.specs.Writing.{CanWrite, RefusesNow, Logged, IsNotLogged, WasRead, has_to_log, matter_of, old_point}
-use Rattle.store_core.proofs.Answering.{ReadsRow, known-sound}
+use Rattle.store_core.proofs.Answering.{FindsDamaged, ReadsRow, known-sound}
 use Rattle.store_core.proofs.Found.{remove-absent, place-found, had-row, had-point}
 
 ready-to_write : (old : StoreState) (m : Machine) → CanWrite old → Has old m → IsReadyToWrite m
@@ -42,9 +45,9 @@ ready-to_write old m can has = record {
 }
 
 -- a refusal without a device call
-refuses : (s : StoreState) (owner : ℕ) (op : LogOp) (r : Refusal) → ((known : Bool) (m : Machine) → Has s m → RefusesWrite known m r) → Stops (Write op (Err r)) false → is_fault (Write op (Err r)) ≡ false
+refuses : (s : StoreState) (owner : ℕ) (op : LogOp) (r : Refusal) → ((known : Bool) (m : Machine) → Has s m → RefusesWrite known m r) → Stops (Write op (Err r)) false → is_fault (Write op (Err r)) ≡ false → damaged_page (Write op (Err r)) ≡ None
     → ((m : Machine) → MakesCalls m (Write op (Err r)) false []) → Makes s s owner (Write op (Err r))
-refuses s owner op r needs stops fault none =
+refuses s owner op r needs stops fault sound none =
     still-event s s.lists s.seq owner (Write op (Err r))
     (record {
       needs = λ known o m has tells. needs known m has;
@@ -54,6 +57,7 @@ refuses s owner op r needs stops fault none =
       faults = omega arith;
       cause = λ is. absurd (let never : true ≡ false = sym is ∙ fault in cc);
       time = omega arith;
+      causes = no-cause s.lists s.device (Write op (Err r)) sound;
     })
     (λ m has i. record m { seq = sym has.seq i; log = sym has.log i; lists = sym has.lists i; table = m.table })
     fault
@@ -63,9 +67,9 @@ refuses s owner op r needs stops fault none =
 -- a write that is refused before anything is done
 pub refused-now : (s : StoreState) (owner : ℕ) (op : LogOp) (refusal : Refusal) → RefusesNow s refusal → Makes s s owner (Write op (Err refusal))
 refused-now s owner op Fault now = absurd now
-refused-now s owner op (Stopped faults) now = refuses s owner op (Stopped faults) (λ known m has. sym has.stopped ∙ now) refl refl (λ m. refl)
+refused-now s owner op (Stopped faults) now = refuses s owner op (Stopped faults) (λ known m has. sym has.stopped ∙ now) refl refl refl (λ m. refl)
 refused-now s owner op (Full need longest) now =
-    refuses s owner op (Full need longest) (λ known m has. (sym has.stopped ∙ now.0, ap (λ (l : Log). l.next_lsn) (sym has.log) ∙ now.1, now.2, now.3)) refl refl (λ m. refl)
+    refuses s owner op (Full need longest) (λ known m has. (sym has.stopped ∙ now.0, ap (λ (l : Log). l.next_lsn) (sym has.log) ∙ now.1, now.2, now.3)) refl refl refl (λ m. refl)
 refused-now s owner op (Again ops) now =
     refuses s owner op (Again ops)
     (λ known m has. (
@@ -74,7 +78,7 @@ refused-now s owner op (Again ops) now =
       ap (λ (l : Log). l.records) (sym has.log) ∙ now.2,
       now.3 ∙ ap (λ (l : Log). l.records) has.log,
     ))
-    refl refl (λ m. refl)
+    refl refl refl (λ m. refl)
 refused-now s owner op NoIndex now = absurd now
 refused-now s owner op (Damaged n) now = absurd now
 refused-now s owner op OutOfMemory now = absurd now
@@ -83,18 +87,18 @@ refused-now s owner op OutOfMemory now = absurd now
 pub refused-memory : (old new : StoreState) (owner : ℕ) (op : LogOp) → new ≡ old → CanWrite old → Makes old new owner (Write op (Err OutOfMemory))
 refused-memory old new owner op is can =
     subst (λ (s : StoreState). Makes old s owner (Write op (Err OutOfMemory))) (sym is)
-    (refuses old owner op OutOfMemory (λ known m has. ready-to_write old m can has) refl refl (λ m. refl))
+    (refuses old owner op OutOfMemory (λ known m has. ready-to_write old m can has) refl refl refl (λ m. refl))
 
 -- a write whose row could not be read
 pub read-refused : (old : StoreState) (now : DeviceState) (owner : ℕ) (op : LogOp) (fault : PageFault) (pages : List ℕ) → ReadsRow old now (key_of op) (Err fault) pages
-    → (fault ≡ page.Failed → Rose old.device.faults now.faults) → (fault ≡ page.OutOfMemory → ⊥) → CanWrite old
+    → (fault ≡ page.Failed → Rose old.device.faults now.faults) → (fault ≡ page.OutOfMemory → ⊥) → FindsDamaged old fault → CanWrite old
     → Makes old (record old { device = now }) owner (Write op (Err (refusal_of fault)))
-read-refused old now owner op page.Failed pages is rose memory can =
+read-refused old now owner op page.Failed pages is rose memory bad can =
     reads-event old now (way_to (key_of op)) (Err page.Failed) pages old.seq owner (Write op (Err Fault)) is.reads
-    (record { needs = λ known o m has tells. ready-to_write old m can has; owned = tt; acks = tt; stops = tt; faults = is.reads.later; cause = λ _. rose refl; time = is.time })
+    (record { needs = λ known o m has tells. ready-to_write old m can has; owned = tt; acks = tt; stops = tt; faults = is.reads.later; cause = λ _. rose refl; time = is.time; causes = no-cause old.lists now (Write op (Err Fault)) refl })
     (λ m has i. record m { seq = sym has.seq i; log = sym has.log i; lists = sym has.lists i; table = m.table })
     refl (λ m calls are. are)
-read-refused old now owner op (page.Damaged n) pages is rose memory can =
+read-refused old now owner op (page.Damaged n) pages is rose memory bad can =
     reads-event old now (way_to (key_of op)) (Err (page.Damaged n)) pages old.seq owner (Write op (Err (Damaged n))) is.reads
     (record {
       needs = λ known o m has tells. (
@@ -107,10 +111,11 @@ read-refused old now owner op (page.Damaged n) pages is rose memory can =
       faults = is.reads.later;
       cause = λ fault. absurd (let never : true ≡ false = sym fault in cc);
       time = is.time;
+      causes = read-cause old now (way_to (key_of op)) n pages is.reads (λ contents told. bad contents told n refl);
     })
     (λ m has i. record m { seq = sym has.seq i; log = sym has.log i; lists = sym has.lists i; table = m.table })
     refl (λ m calls are. are)
-read-refused old now owner op page.OutOfMemory pages is rose memory can = absurd (memory refl)
+read-refused old now owner op page.OutOfMemory pages is rose memory bad can = absurd (memory refl)
 
 -- a row that was read, and nothing else was done
 pub was-read : (old : StoreState) (now : DeviceState) (key : ℕ) (row : Option Row) (pages : List ℕ) → ReadsRow old now key (Ok row) pages → WasRead old (between old now) key row
@@ -144,6 +149,7 @@ nothing-there old mid new owner (Del key) None wrote was can none wrote_is new_i
       faults = was.reads.later;
       cause = λ fault. absurd (let never : true ≡ false = sym fault in cc);
       time = was.time;
+      causes = no-cause old.lists mid.device (Write (Del key) (Ok w)) refl;
     })
     (λ m has i. record m { seq = next_count (sym has.seq i); log = sym has.log i; lists = sym has.lists i; table = finite.remove m.table key })
     (λ o m has t. remove-absent m.table key (absent m.table key (was.row_is m.table m.disk t.now t.told t.legible)))

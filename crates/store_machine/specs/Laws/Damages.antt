@@ -5,13 +5,12 @@ use Rattle.dev_model.specs.Story.{Calls, Story, WhereTold, after, clock_of}
 use Rattle.dev_model.specs.Doing.{HasStoppedIn, all_noted}
 use Rattle.dev_model.specs.Laws.Plans.{all_noted-told, Did-untold, no_story}
 use Rattle.dev_model.specs.Laws.Runs.{after-append}
-use Rattle.dev_model.specs.declared.calls.DeviceCall.{DeviceCall}
 use Rattle.device_pages.specs.Lending.{contents_of}
 use Rattle.primary_ix.specs.Pages.{IsDamagedIn}
 use Rattle.store_state.specs.Lists.{Lists, extents_of, trees_of}
 use Rattle.store_machine.specs.Damage.{damaged_page, WasDamaged, DamagesAre}
 use Rattle.store_machine.specs.Devices.{DeviceState}
-use Rattle.store_machine.specs.Laws.LogCalls.{IsPlan, failed_calls, failed-by}
+use Rattle.store_machine.specs.Laws.LogCalls.{IsPlan, failed-by}
 use Rattle.store_machine.specs.Machine.{Machine, after_event, after_all}
 use Rattle.store_machine.specs.Standing.{StoreState, Has}
 use Rattle.store_machine.specs.Calls.{IsEventOf}
@@ -95,5 +94,5 @@ cause-was old now owner action e m is has causes s told page answered =
     }
 
 -- no page was answered to be damaged
-pub no-cause : (lists : Lists) (now : DeviceState) → WhereTold None (IsCause lists now)
-no-cause lists now page is = absurd (let no : ◌≡◌ {A = Option ℕ} None (Some page) = is in cc)
+pub no-cause : (lists : Lists) (now : DeviceState) (action : Action) → damaged_page action ≡ None → WhereTold (damaged_page action) (IsCause lists now)
+no-cause lists now action none page is = absurd (let no : ◌≡◌ {A = Option ℕ} None (Some page) = sym none ∙ is in cc)

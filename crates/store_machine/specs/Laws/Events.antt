@@ -232,7 +232,7 @@ wrote-event old mid now row pages owner op r wrote log lists reads all is time r
     let new : StoreState = wrote_state (between old mid) now log lists wrote.ack in
     let e : Event = event_of old new owner (Write op (Ok wrote)) (read ++ made) false in
     makes old new owner (Write op (Ok wrote)) e (record { owner_is = refl; action_is = refl; before_it = refl; after_it = refl; time = refl }) refl refl
-    (gone-then old.device.story mid.story now.story (gone-read old mid (way_to (key_of op)) (Ok row) pages reads) (gone-noted (append_calls old.log r) mid.story now.story all.did)) (no-cause old.lists now)
+    (gone-then old.device.story mid.story now.story (gone-read old mid (way_to (key_of op)) (Ok row) pages reads) (gone-noted (append_calls old.log r) mid.story now.story all.did)) (no-cause old.lists now (Write op (Ok wrote)) refl)
     (λ known o m has tells.
     let mm : Machine = machine_between m mid read in
     let mid_has : Has (between old mid) mm = between-has old mid read m has in
@@ -295,7 +295,7 @@ write-failed old mid now row pages owner op r reads fails is rose time reads_tim
     let new : StoreState = failed_state (between old mid) now in
     let e : Event = event_of old new owner (Write op (Err Fault)) (read ++ made) true in
     makes old new owner (Write op (Err Fault)) e (record { owner_is = refl; action_is = refl; before_it = refl; after_it = refl; time = refl }) refl refl
-    (gone-then old.device.story mid.story now.story (gone-read old mid (way_to (key_of op)) (Ok row) pages reads) (gone-stopped plan tt mid.story now.story fails.did)) (no-cause old.lists now)
+    (gone-then old.device.story mid.story now.story (gone-read old mid (way_to (key_of op)) (Ok row) pages reads) (gone-stopped plan tt mid.story now.story fails.did)) (no-cause old.lists now (Write op (Err Fault)) refl)
     (λ known o m has tells.
     let mm : Machine = machine_between m mid read in
     let mid_has : Has (between old mid) mm = between-has old mid read m has in

@@ -26,7 +26,7 @@ returns-in-Err-clause-event g c =
     subst (λ (r : Refusal). Makes old (record old { device = now }) c.args.owner (Get c.args.key (Err r))) (sym c.refused.ensures)
     (got-refused old now c.args.owner c.args.key c.in-Err.fault c.in-Err.ensures.asked.0
     (reads-row old now c.args.key _ c.in-Err.ensures.asked.0 c.in-Err.ensures.asked.1 c.in-Err.ensures.asked.3 c.in-Err.ensures.stays c.in-Err.ensures.same_pages c.in-Err.ensures.later (λ s is. g.met.D.Device.clock_told _ s is) c.in-Err.ensures.row)
-    c.in-Err.ensures.failed c.in-Err.ensures.needs_no_memory)
+    c.in-Err.ensures.failed c.in-Err.ensures.needs_no_memory c.in-Err.ensures.damaged)
 
 pub returns-in-Ok-clause-pages : goal.returns-in-Ok-clause-pages
 returns-in-Ok-clause-pages g c =

@@ -21,7 +21,7 @@ returns-in-Err-clause-event g c =
     (device_of g.D.Device.pages g.D.Device.clock g.D.Device.fault_count g.D.Device.story c.read_rows.new.device) c.in-Err.fault c.refused.result c.in-Err.ensures.asked.0 c.args.owner c.args.kind c.args.rect.now
     (read-facts _ _ _ c.in-Err.ensures.asked.0 c.in-Err.ensures.asked.1 c.in-Err.ensures.asked.3 c.in-Err.ensures.stays c.in-Err.ensures.same_pages c.in-Err.ensures.later (g.met.D.Device.clock_told c.read_rows.new.device))
     (λ table disk s is legible. sound-rows c.in-Err.fault (c.in-Err.ensures.rows table disk s is legible))
-    c.in-Err.ensures.failed (sym c.has.ensures ∙ c.if-not-has.false) c.refused.ensures
+    c.in-Err.ensures.failed c.in-Err.ensures.damaged (sym c.has.ensures ∙ c.if-not-has.false) c.refused.ensures
 
 pub returns-in-Ok-inside-clause-event : goal.returns-in-Ok-inside-clause-event
 returns-in-Ok-inside-clause-event g c =

@@ -32,7 +32,7 @@ returns-in-Err-read_row-clause-event g c =
     (λ s is. g.met.D.Device.clock_told _ s is) c.in-Err-read_row.ensures.row) in
     subst (λ (s : StoreState). Makes s (record room { device = now }) c.args.owner (Write c.args.op.now (Err c.refused.result))) c.make_room.ensures.same
     (subst (λ (r : Refusal). Makes room (record room { device = now }) c.args.owner (Write c.args.op.now (Err r))) (sym c.refused.ensures)
-    (read-refused room now c.args.owner c.args.op.now c.in-Err-read_row.fault c.in-Err-read_row.ensures.asked.0 read c.in-Err-read_row.ensures.failed c.in-Err-read_row.ensures.needs_no_memory
+    (read-refused room now c.args.owner c.args.op.now c.in-Err-read_row.fault c.in-Err-read_row.ensures.asked.0 read c.in-Err-read_row.ensures.failed c.in-Err-read_row.ensures.needs_no_memory c.in-Err-read_row.ensures.damaged
     (subst CanWrite (sym c.make_room.ensures.same) c.in_default.ensures.can)))
 
 pub write_over-requires-clause-says : goal.write_over-requires-clause-says
