@@ -3,6 +3,7 @@
 use Rattle.std.specs.Prelude.{ℕ, ◌+◌, Bool, true, false, List, [], ◌∷◌, ◌++◌, Option, Some, None, Ok, Err, codes}
 use Rattle.std.specs.FinMap.{empty, insert}
 use Rattle.dev_model.specs.DeviceCalls.{made_at}
+use Rattle.dev_model.specs.Story.{Read, Story, patched}
 use Rattle.dev_model.specs.declared.calls.DeviceCall.{DeviceCall}
 use Rattle.dev_model.specs.declared.calls.DeviceAct.TheVariants.{ReadAt, WriteAt, SyncAll}
 use Rattle.geo_base.specs.declared.points.Row.{Row}
@@ -12,6 +13,7 @@ use Rattle.wal_log.specs.declared.log.Log.{Log}
 use Rattle.wal_log.specs.declared.records.LogOp.TheVariants.{Put, Del}
 use Rattle.image_model.specs.declared.places.TheConstants.{LOG_START}
 use Rattle.comp_dir.specs.declared.slots.Slot.{Slot}
+use Rattle.page_codec.specs.declared.kinds.TheConstants.{PRIMARY_LEAF}
 use Rattle.primary_ix.specs.Wanted.{matter_row}
 use Rattle.store_state.specs.Lists.{Lists}
 use Rattle.store_machine.specs.Machine.{Opening}
@@ -211,8 +213,8 @@ abbrev pub put_behind : Event
 put_behind = event (Write (Put seven) (Ok (record { seq = 1; old = Some (seven.point, seven.note); ops = 1; ack = 32 }))) (log_write 28 299072) 32
 
 -- a page that is none for its place
-abbrev pub damaged_get : Event
-damaged_get = event (Get 7 (Err (Damaged 265))) [] 20
+abbrev pub damaged_get : (page : ℕ) → List DeviceCall → (clock : ℕ) → Event
+damaged_get page calls clock = event (Get 7 (Err (Damaged page))) calls clock
 
 -- The commands of the flushed row, and what became of them.
 abbrev pub put_command : command.Command
@@ -271,3 +273,14 @@ read_both = got 0 (Some seven) (page_read 20 1089536 ++ page_read 21 1085440) 22
 
 abbrev pub read_newest : List Event
 read_newest = got 0 (Some seven) (page_read 20 1089536) 21 ∷ []
+
+-- The same from clock 0 on, on bytes in which page 266 is a leaf without a row, and page 265 isn't one. Both are read.
+abbrev pub two_at_first : Opening
+two_at_first = record two_components { clock = 0 }
+
+abbrev pub one_leaf : Story
+one_leaf = record { start = patched 1089536 (PRIMARY_LEAF ∷ []) (λ _. 0); past = Read 1085440 4096 ∷ Read 1089536 4096 ∷ [] }
+
+-- a get of key 7 that answers at this clock that a page is damaged
+abbrev pub damaged_read : (page clock : ℕ) → List Event
+damaged_read page clock = damaged_get page (page_read 0 1089536 ++ page_read 1 1085440) clock ∷ []

@@ -4,8 +4,9 @@ ghost use Rattle.table_model.specs.Commands.{flush, answered, quiet, refused, wr
 ghost use Rattle.table_model.specs.declared.Why.TheVariants.{NoIndex as no_index};
 ghost use Rattle.store_machine.specs.Machine.{at_opening, after_all};
 ghost use Rattle.store_machine.specs.Runs.{IsRun};
+ghost use Rattle.store_machine.specs.Damage.{DamagesAre};
 ghost use Rattle.store_machine.specs.Commands.{Does, DoesAll};
-ghost use Rattle.store_machine.specs.Examples.{start, worked, put_with, put_seven, log_write, gated_write, page_read, got, other, seven, counted, failed_put, failed_with, refused_put, answered_put, logged_del, frozen, begun, page_written, installed, early_gate, put_and_begun, unplaced_flush, flushed, unread, read_too_much, idle, put_behind, damaged_get, put_command, get_command, script, outcomes, failed_get, two_components, read_both, read_newest};
+ghost use Rattle.store_machine.specs.Examples.{start, worked, put_with, put_seven, log_write, gated_write, page_read, got, other, seven, counted, failed_put, failed_with, refused_put, answered_put, logged_del, frozen, begun, page_written, installed, early_gate, put_and_begun, unplaced_flush, flushed, unread, read_too_much, idle, put_behind, damaged_get, put_command, get_command, script, outcomes, failed_get, two_components, read_both, read_newest, two_at_first, one_leaf, damaged_read};
 ghost use Rattle.store_machine.specs.declared.events.Refusal.TheVariants.{Stopped, Again, NoIndex};
 
 /// Worked runs: a row is put, asked for, taken out, and none is counted; a put that fails and one that is refused for it; and
@@ -47,7 +48,7 @@ pub fn refused_runs()
     ensures component_unread { IsRun true (at_opening start) unread → ⊥ }
     ensures component_read_for_a_row_in_memory { IsRun true (at_opening start) read_too_much → ⊥ }
     ensures pages_of_other_lists { IsRun true (at_opening two_components) read_newest → ⊥ }
-    ensures damaged_on_a_device_that_tells { IsRun true (at_opening start) (damaged_get ∷ []) → ⊥ }
+    ensures damaged_on_a_device_that_tells { IsRun true (at_opening start) (damaged_get 265 [] 20 ∷ []) → ⊥ }
 {}
 
 /// Worked commands: a put, a flush and a get, with their outcomes; and events that aren't a command with its outcome, each
@@ -59,4 +60,13 @@ pub fn worked_commands()
     ensures two_puts_in_one { Does put_command (answered 0 (wrote put_new)) (put_seven ∷ put_behind ∷ []) → ⊥ }
     ensures answered_for_a_refusal { Does get_command (answered 0 (got_row None)) (failed_get ∷ []) → ⊥ }
     ensures put_without_an_index { Does put_command (refused no_index) (failed_put ∷ []) → ⊥ }
+{}
+
+/// Worked answers that a page is damaged, on bytes in which one page of two components is a leaf and the other one isn't; and
+/// answers that have no cause: the page is one for its place, no component has the page, or the clock is still to come.
+pub fn worked_damages()
+    ensures none_for_its_place { DamagesAre (at_opening two_at_first) one_leaf (damaged_read 265 2) }
+    ensures page_for_its_place { DamagesAre (at_opening two_at_first) one_leaf (damaged_read 266 2) → ⊥ }
+    ensures page_of_no_component { DamagesAre (at_opening two_at_first) one_leaf (damaged_read 264 2) → ⊥ }
+    ensures clock_to_come { DamagesAre (at_opening two_at_first) one_leaf (damaged_read 265 3) → ⊥ }
 {}

@@ -7,5 +7,5 @@ mod examples;
 mod laws;
 
 pub use events::{Action, Event, Found, Got, Look, OwnedJob, Refusal, WriteOp, Wrote};
-pub use examples::{refused_runs, worked_commands, worked_runs};
+pub use examples::{refused_runs, worked_commands, worked_damages, worked_runs};
 pub use laws::events_follow_one_another;
