@@ -16,7 +16,7 @@ use Rattle.component_image.specs.Resting.{Rests}
 use Rattle.component_image.specs.Laws.Keeping.{rest-image}
 use Rattle.primary_ix.specs.declared.rows.PrimRow.{PrimRow}
 use Rattle.store_machine.specs.Standing.{StoreState, Stands, StandsSince}
-use Rattle.store_machine.specs.Devices.{DeviceState, HoldsTable}
+use Rattle.store_machine.specs.Devices.{DeviceState}
 use Rattle.store_state.specs.Lists.{Lists}
 use Rattle.kept_state.specs.Keeping.{IsKept}
 use Rattle.kept_state.specs.Laws.ReadingStays.{kept-legible}
