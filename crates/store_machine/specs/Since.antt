@@ -9,6 +9,7 @@ use Rattle.image_model.specs.Opening.{IsOpeningRange}
 use Rattle.component_image.specs.Recovered.{IsLookedAt}
 use Rattle.primary_ix.specs.declared.rows.PrimRow.{PrimRow}
 use Rattle.kept_state.specs.Keeping.{IsKept}
+use Rattle.store_machine.specs.Damage.{DamagesAre}
 use Rattle.store_machine.specs.Devices.{DeviceState, HoldsTable}
 use Rattle.store_machine.specs.Machine.{Machine, Opening, at_opening, after_all}
 use Rattle.store_machine.specs.Runs.{IsRun}
@@ -39,6 +40,7 @@ pub record MadeFrom (table : Table) (o : Opening) (new : DeviceState) (events : 
 -- A store was opened on the device, and these events were made. The opening only read, and only where an opening looks; no fault went
 -- unseen; and where the device told, and all that an opening looks at was on the disk, the declared indexes are those of the bytes. The
 -- events are a run from there, after which the device has the machine's count of faults and its clock, and the acks are the machine's.
+-- Each page that was answered to be damaged was so, by what the device told.
 pub record MadeSince (device new : DeviceState) (acks : List ℕ) (events : List Event) : Type 0 where
   pub opening : Opening
   pub reads : WhereTold device.story (λ s. ReadsWithin IsOpeningRange s opening.story)
@@ -48,4 +50,5 @@ pub record MadeSince (device new : DeviceState) (acks : List ℕ) (events : List
   pub faults : new.faults ≡ (after_all (at_opening opening) events).faults
   pub clock : new.clock ≡ (after_all (at_opening opening) events).clock
   pub acks_are : acks ≡ (after_all (at_opening opening) events).acks
+  pub damages : WhereTold new.story (λ s. DamagesAre (at_opening opening) s events)
   pub from : (table : Table) → WhereTold device.story (λ s. HoldsTable device.pages table s → MadeFrom table opening new events)

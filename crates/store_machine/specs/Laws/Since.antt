@@ -51,5 +51,6 @@ made-since device store events since = record {
   faults = since.untold.has.faults;
   clock = since.untold.has.clock;
   acks_are = since.untold.has.acks;
+  damages = since.untold.damages;
   from = λ table s told holds. let at : _ = since.told table s told holds in made-from table at.0 since.opening store events at.1;
 }
