@@ -9,8 +9,9 @@ use Rattle.dev_model.specs.Story.{WhereTold}
 use Rattle.page_codec.specs.declared.faults.PageFault.{PageFault}
 use Rattle.page_codec.specs.declared.faults.PageFault.TheVariants.{Failed, Damaged, OutOfMemory}
 use Rattle.btree_image.specs.Rows.{Layout}
-use Rattle.btree_image.specs.Pages.{IsShown}
-use Rattle.btree_image.specs.Damage.{IsDamaged, IsTested}
+use Rattle.btree_image.specs.Shown.{IsShown}
+use Rattle.btree_image.specs.Damage.{IsDamaged}
+use Rattle.btree_image.specs.Tested.{IsTested}
 use Rattle.tree_shape.specs.Asked.{given_but_last, EndsWith, GoesBy, Went}
 use Rattle.tree_shape.specs.Given.{given}
 use Rattle.btree_image.specs.Walks.{reads_by, StopsOn, GoesAlong, OnDamaged, OnFailed, OnGiven, GoesOn, fault_of}

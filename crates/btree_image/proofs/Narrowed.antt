@@ -13,7 +13,7 @@ use Rattle.tree_shape.specs.Shape.{level_size, span, IsPlace, numbers}
 use Rattle.btree_image.specs.Rows.{Layout}
 use Rattle.btree_image.specs.Kinds.{IsKeyOrder}
 use Rattle.btree_image.specs.Image.{shape_of, level_rows, IsList, child_row}
-use Rattle.btree_image.specs.Pages.{IsShown}
+use Rattle.btree_image.specs.Shown.{IsShown}
 use Rattle.btree_image.specs.Descent.{rank, place_of_key}
 use Rattle.btree_image.specs.Steps.{reaches, IsLastUpTo}
 use Rattle.btree_image.specs.Walks.{end_of_key, run_of, Leads, IsInHand}

@@ -15,9 +15,11 @@ use Rattle.btree_image.specs.Rows.{Layout, IsStored}
 use Rattle.btree_image.specs.Kinds.{IsKeyOrder}
 use Rattle.btree_image.specs.Given.{row_with_key}
 use Rattle.btree_image.specs.Image.{shape_of, level_rows, level_kind, IsList, ShowsTree, child_row}
-use Rattle.btree_image.specs.Pages.{IsShown, page_number}
+use Rattle.btree_image.specs.Pages.{page_number}
+use Rattle.btree_image.specs.Shown.{IsShown}
 use Rattle.btree_image.specs.Descent.{rank, place_of_key}
-use Rattle.btree_image.specs.Damage.{AllReadable, IsTreePage, IsDamaged, IsTested}
+use Rattle.btree_image.specs.Damage.{AllReadable, IsTreePage, IsDamaged}
+use Rattle.btree_image.specs.Tested.{IsTested}
 use Rattle.page_codec.specs.declared.faults.PageFault.TheVariants.{Damaged}
 use Rattle.btree_image.specs.Steps.{IsLastUpTo, row_at}
 use Rattle.tree_shape.specs.Laws.Writing.{length-rows_on, stands, Stands}

@@ -4,7 +4,7 @@ use Rattle.std.specs.Int.{from_be_bytes, w32}
 use Rattle.page_codec.specs.Page.{IsPage, row_count, rows_on}
 use Rattle.tree_shape.specs.Shape.{level_size, level_start, IsPlace}
 use Rattle.btree_image.specs.Rows.{Layout}
-use Rattle.btree_image.specs.Image.{shape_of, level_kind}
+use Rattle.btree_image.specs.Image.{shape_of}
 use Rattle.btree_image.specs.Pages.{page_number}
 
 -- the rows of a leaf can all be read
@@ -36,12 +36,3 @@ pub record IsDamaged {T K : Type 0} (l : Layout T K) (first rows : ℕ) (content
   pub place : IsPlace (shape_of l rows) level at
   pub number : page ≡ page_number l first rows level at
   pub bad : IsTreePage l rows level (contents page) → ⊥
-
--- the page at a place of the tree has the header of that place, and above the leaves a row
-pub record IsTested {T K : Type 0} (l : Layout T K) (first rows : ℕ) (contents : ℕ → List ℕ) (page : ℕ) : Type 0 where
-  pub level : ℕ
-  pub at : ℕ
-  pub place : IsPlace (shape_of l rows) level at
-  pub number : page ≡ page_number l first rows level at
-  pub header : IsPage (level_kind l level) level (contents page)
-  pub some : 0 < level → 0 < row_count (contents page)

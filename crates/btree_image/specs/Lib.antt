@@ -6,6 +6,8 @@ pub mod Kinds
 pub mod Lent
 pub mod Pages
 pub mod Rows
+pub mod Shown
 pub mod Steps
+pub mod Tested
 pub mod Visited
 pub mod Walks

@@ -13,9 +13,11 @@ use Rattle.btree_image.specs.declared.runs.Run.{Run}
 use Rattle.tree_shape.specs.Shape.{span, level_size, numbers}
 use Rattle.btree_image.specs.Rows.{Layout}
 use Rattle.btree_image.specs.Image.{shape_of, level_kind}
-use Rattle.btree_image.specs.Pages.{page_number, IsShown}
+use Rattle.btree_image.specs.Pages.{page_number}
+use Rattle.btree_image.specs.Shown.{IsShown}
 use Rattle.btree_image.specs.Descent.{rank, place_of_key}
-use Rattle.btree_image.specs.Damage.{IsDamaged, IsTested}
+use Rattle.btree_image.specs.Damage.{IsDamaged}
+use Rattle.btree_image.specs.Tested.{IsTested}
 use Rattle.tree_shape.specs.Asked.{given_but_last, EndsWith}
 use Rattle.tree_shape.specs.Given.{given}
 

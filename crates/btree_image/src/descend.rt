@@ -8,10 +8,12 @@ ghost use Rattle.page_codec.specs.declared.faults.PageFault.TheVariants.{Failed,
 ghost use Rattle.tree_shape.specs.Shape.{level_size, level_start, IsRoot, IsPlace};
 ghost use Rattle.btree_image.specs.Given.{row_with_key};
 ghost use Rattle.btree_image.specs.Image.{shape_of, level_rows, IsList};
-ghost use Rattle.btree_image.specs.Pages.{IsShown, page_number};
+ghost use Rattle.btree_image.specs.Pages.{page_number};
+ghost use Rattle.btree_image.specs.Shown.{IsShown};
 ghost use Rattle.btree_image.specs.Lent.{AreLent};
 ghost use Rattle.btree_image.specs.Descent.{place_of_key, descent};
-ghost use Rattle.btree_image.specs.Damage.{IsInnerPage, IsDamaged, IsTested};
+ghost use Rattle.btree_image.specs.Damage.{IsInnerPage, IsDamaged};
+ghost use Rattle.btree_image.specs.Tested.{IsTested};
 ghost use Rattle.tree_shape.specs.Asked.{Went, GoesBy};
 
 use crate::TreeRow;

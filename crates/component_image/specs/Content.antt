@@ -1,5 +1,6 @@
 -- What the pages of components show.
 use Rattle.std.specs.Prelude.{◌≡◌, ℕ, ◌*◌, List, [], ◌∷◌, length}
+use Rattle.std.specs.List.{AllZip}
 use Rattle.dev_model.specs.Story.{Bytes, part}
 use Rattle.page_codec.specs.declared.pages.TheConstants.{PAGE_BYTES}
 use Rattle.btree_image.specs.Image.{IsList, ShowsTree}
@@ -20,10 +21,7 @@ pub record Shows (bytes : Bytes) (s : Slot) (rows : List PrimRow) : Type 0 where
 
 -- each of these components shows its list
 abbrev pub ShowAll : Bytes → List Slot → List (List PrimRow) → Type 0
-ShowAll bytes [] [] = Unit {0}
-ShowAll bytes (s ∷ slots) [] = ⊥
-ShowAll bytes [] (rows ∷ lists) = ⊥
-ShowAll bytes (s ∷ slots) (rows ∷ lists) = Shows bytes s rows × ShowAll bytes slots lists
+ShowAll bytes slots lists = AllZip (Shows bytes) slots lists
 
 -- each of these components says how many rows the table had after it
 abbrev pub Count : List Slot → List (List PrimRow) → Type 0

@@ -3,7 +3,7 @@ ghost use Rattle.std.specs.Prelude.{◌≡◌, ◌↔◌, ◌⊎◌, ℕ, ◌+�
 ghost use Rattle.dev_model.specs.Story.{Bytes, Story, clock_of, bytes_of, IsOutside, IsImageNow, IsCalmAt};
 ghost use Rattle.dev_model.specs.Moments.{EachMoment};
 ghost use Rattle.dev_model.specs.Writes.{WritesWithin};
-ghost use Rattle.order_merge.specs.Entries.{Fits};
+ghost use Rattle.order_merge.specs.Fitting.{Fits};
 ghost use Rattle.order_merge.specs.Views.{lists_of};
 ghost use Rattle.table_model.specs.Table.{Table, rows_of};
 ghost use Rattle.table_model.specs.Answers.{after_write};
@@ -24,7 +24,7 @@ ghost use Rattle.comp_dir.specs.declared.places.TheConstants.{PRIMARY};
 ghost use Rattle.comp_dir.specs.State.{IsOneOf, with_slot};
 ghost use Rattle.comp_dir.specs.Resting.{IsAtRest as DirectoryAtRest};
 ghost use Rattle.comp_dir.specs.declared.slots.Slot.{Slot};
-ghost use Rattle.primary_ix.specs.Rows.{prim_reading};
+ghost use Rattle.primary_ix.specs.Reading.{prim_reading};
 ghost use Rattle.primary_ix.specs.Wanted.{wanted_rows};
 ghost use Rattle.primary_ix.specs.declared.rows.PrimRow.{PrimRow};
 ghost use Rattle.component_image.specs.Changes.{changed, IsFrozenOf};

@@ -1,5 +1,5 @@
 -- What has happened on a device, what is read there now, and what a crash may leave of it.
-use Rattle.std.specs.Prelude.{◌≡◌, ◌⊎◌, ℕ, ◌+◌, ◌-◌, ◌<◌, ◌≤◌, List, [], ◌∷◌, length, drop, Option, Some, zero, suc, if◌then◌else◌, ◌&&◌, nat_le, nat_lt, slice_index}
+use Rattle.std.specs.Prelude.{◌≡◌, ◌⊎◌, ℕ, ◌+◌, ◌-◌, ◌<◌, ◌≤◌, List, [], ◌∷◌, length, Option, Some, zero, suc, if◌then◌else◌, ◌&&◌, nat_le, nat_lt, slice_index}
 use Rattle.std.specs.Ordering.{nat_cmp, MatchOrdering}
 
 -- the byte at each place
@@ -58,18 +58,11 @@ patched at new old i = if nat_le at i && nat_lt i (at + length new) then slice_i
 abbrev pub bytes_after : Bytes → Past → Bytes
 bytes_after start [] = start
 bytes_after start (Write at new ∷ past) = patched at new (bytes_after start past)
-bytes_after start (Read at count ∷ past) = bytes_after start past
-bytes_after start (Sync ∷ past) = bytes_after start past
-bytes_after start (FailedWrite at new ∷ past) = bytes_after start past
-bytes_after start (FailedCall ∷ past) = bytes_after start past
+bytes_after start (other ∷ past) = bytes_after start past
 
 -- the bytes as read now
 abbrev pub bytes_of : Story → Bytes
 bytes_of s = bytes_after s.start s.past
-
--- the bytes as read at an earlier clock value
-abbrev pub bytes_at : Story → ℕ → Bytes
-bytes_at s clock = bytes_after s.start (drop (clock_of s - clock) s.past)
 
 -- no write has failed at this place since it was last written: a read there gives the byte as read.
 -- Where one has failed, a read may give anything.
@@ -77,9 +70,7 @@ abbrev pub IsReadable : Past → ℕ → Type 0
 IsReadable [] i = Unit {0}
 IsReadable (Write at new ∷ past) i = IsInside at (length new) i ⊎ IsReadable past i
 IsReadable (FailedWrite at new ∷ past) i = IsOutside at (length new) i × IsReadable past i
-IsReadable (Read at count ∷ past) i = IsReadable past i
-IsReadable (Sync ∷ past) i = IsReadable past i
-IsReadable (FailedCall ∷ past) i = IsReadable past i
+IsReadable (other ∷ past) i = IsReadable past i
 
 -- A crash leaves the byte as read at this place: no write was tried there since the last sync that succeeded (or clock 0),
 -- and at that sync it could be read. A sync that failed is a failed call, and settles nothing.
@@ -88,16 +79,13 @@ IsSettled [] i = Unit {0}
 IsSettled (Write at new ∷ past) i = IsOutside at (length new) i × IsSettled past i
 IsSettled (FailedWrite at new ∷ past) i = IsOutside at (length new) i × IsSettled past i
 IsSettled (Sync ∷ past) i = IsReadable past i
-IsSettled (Read at count ∷ past) i = IsSettled past i
-IsSettled (FailedCall ∷ past) i = IsSettled past i
+IsSettled (other ∷ past) i = IsSettled past i
 
 -- a call that is under way doesn't touch this place
 abbrev pub IsSpared : Call → ℕ → Type 0
 IsSpared (Write at new) i = IsOutside at (length new) i
 IsSpared (FailedWrite at new) i = IsOutside at (length new) i
-IsSpared (Read at count) i = Unit {0}
-IsSpared Sync i = Unit {0}
-IsSpared FailedCall i = Unit {0}
+IsSpared other i = Unit {0}
 
 -- what a crash may leave while no call is under way: the bytes as read where they are settled, and anything elsewhere
 abbrev pub IsImageNow : Story → Bytes → Type 0

@@ -1,7 +1,8 @@
 -- The log of a store that has no record.
 use Rattle.std.proofs.Common.{◌≡◌, ℕ, List, [], ◌∷◌, length, Some, None, refl, arith}
 use Rattle.std.proofs.lemmas.List.Elements.{All-cons, All-nil}
-use Rattle.wal_log.specs.Headers.{header_bytes, generation_in, first_lsn_in}
+use Rattle.wal_log.specs.Headers.{generation_in, first_lsn_in}
+use Rattle.wal_log.specs.State.{header_bytes}
 use Rattle.wal_log.specs.Segments.{Segments}
 use Rattle.wal_log.specs.Growing.{started_segment}
 use Rattle.wal_log.specs.Rules.{Numbered, Opens, IsEnd}

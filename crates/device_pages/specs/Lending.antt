@@ -3,7 +3,7 @@ use Rattle.std.specs.Prelude.{ℕ, zero, suc, ◌+◌, ◌*◌, Bool, true, ◌&
 use Rattle.std.specs.List.{list_any, list_all}
 use Rattle.space_map.specs.declared.space.Extent.{Extent}
 use Rattle.space_map.specs.Space.{is_in}
-use Rattle.dev_model.specs.Story.{Read, Write, Sync, FailedWrite, FailedCall, Past, Story, bytes_of, part}
+use Rattle.dev_model.specs.Story.{Write, FailedWrite, Past, Story, bytes_of, part}
 use Rattle.device_pages.specs.declared.lending.TheConstants.{PAGE_BYTES}
 
 abbrev pub is_lent : List Extent → ℕ → Bool
@@ -17,9 +17,7 @@ abbrev pub is_readable : Past → ℕ → Bool
 is_readable [] i = true
 is_readable (Write at new ∷ past) i = is_inside at (length new) i || is_readable past i
 is_readable (FailedWrite at new ∷ past) i = not (is_inside at (length new) i) && is_readable past i
-is_readable (Read at count ∷ past) i = is_readable past i
-is_readable (Sync ∷ past) i = is_readable past i
-is_readable (FailedCall ∷ past) i = is_readable past i
+is_readable (other ∷ past) i = is_readable past i
 
 -- each place of a range passes a test
 unfoldable pub each_place : (at count : ℕ) → (ℕ → Bool) → Bool

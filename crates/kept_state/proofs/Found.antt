@@ -5,7 +5,7 @@ use Rattle.order_merge.specs.Entries.{entry_at, newest_at}
 use Rattle.order_merge.specs.Views.{lists_of}
 use Rattle.order_merge.specs.laws.Living.{option_or-assoc, option_or-none}
 use Rattle.primary_ix.specs.Lookups.{in_memory, lookup_pages, view_pages}
-use Rattle.primary_ix.specs.Rows.{prim_reading}
+use Rattle.primary_ix.specs.Reading.{prim_reading}
 use Rattle.primary_ix.specs.declared.component.PrimComp.{PrimComp}
 use Rattle.primary_ix.specs.declared.rows.PrimRow.{PrimRow}
 

@@ -6,7 +6,8 @@ use Rattle.dev_model.specs.Story.{Story, WhereTold}
 use Rattle.page_codec.specs.declared.faults.PageFault.{PageFault}
 use Rattle.tree_shape.specs.Asked.{GoesBy}
 use Rattle.device_pages.specs.Lending.{contents_of}
-use Rattle.primary_ix.specs.Components.{AreShown, AreRoots}
+use Rattle.primary_ix.specs.Components.{AreShown}
+use Rattle.primary_ix.specs.Roots.{AreRoots}
 use Rattle.primary_ix.specs.Pages.{IsTestedIn}
 use Rattle.primary_ix.specs.declared.component.PrimComp.{PrimComp}
 use Rattle.primary_ix.specs.declared.rows.PrimRow.{PrimRow}

@@ -14,7 +14,7 @@ use Rattle.wal_log.specs.declared.log.Log.{Log}
 use Rattle.wal_log.specs.declared.records.Record.{Record}
 use Rattle.image_model.specs.declared.places.TheConstants.{LOG_START}
 use Rattle.image_model.specs.Recovered.{write_of, replayed}
-use Rattle.primary_ix.specs.Rows.{prim_reading}
+use Rattle.primary_ix.specs.Reading.{prim_reading}
 use Rattle.primary_ix.specs.Wanted.{written_row}
 use Rattle.primary_ix.specs.declared.rows.PrimRow.{PrimRow}
 use Rattle.component_image.specs.Changes.{changed}

@@ -2,12 +2,12 @@
 -- those in memory they fit the table. And what readers leave behind.
 use Rattle.std.specs.Prelude.{List, Some}
 use Rattle.dev_model.specs.Story.{Story}
-use Rattle.order_merge.specs.Entries.{Fits}
+use Rattle.order_merge.specs.Fitting.{Fits}
 use Rattle.order_merge.specs.Views.{lists_of}
 use Rattle.table_model.specs.Table.{Table}
 use Rattle.device_pages.specs.Lending.{contents_of}
 use Rattle.primary_ix.specs.Components.{AreShown}
-use Rattle.primary_ix.specs.Rows.{prim_reading}
+use Rattle.primary_ix.specs.Reading.{prim_reading}
 use Rattle.primary_ix.specs.Wanted.{wanted_rows}
 use Rattle.primary_ix.specs.declared.rows.PrimRow.{PrimRow}
 use Rattle.store_state.specs.Lists.{Lists, extents_of, trees_of}

@@ -1,7 +1,7 @@
 //! Laws of what readers of a store's lists rest on. Each is the contract of a function that does nothing.
 
 ghost use Rattle.std.specs.Prelude.{◌≡◌, ℕ, ◌+◌, ◌*◌, ◌≤◌, false, [], ◌∷◌, Bool, List, length, Option, Some, None};
-ghost use Rattle.btree_image.specs.Pages.{IsShown};
+ghost use Rattle.btree_image.specs.Shown.{IsShown};
 ghost use Rattle.dev_model.specs.Moments.{LeavesOnly, ReadsWithin};
 ghost use Rattle.dev_model.specs.Writes.{AreSpared, WritesWithin};
 ghost use Rattle.dev_model.specs.Story.{Calls, Story, after, IsOutside};

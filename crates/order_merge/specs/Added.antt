@@ -1,7 +1,8 @@
 -- A list with many entries more or without a key, and what is wanted behind an entry that was added.
 use Rattle.std.specs.Prelude.{List, [], ◌∷◌, Option, Some, filter, not, if◌then◌else◌}
 use Rattle.std.specs.Ordering.{eq_by_cmp}
-use Rattle.order_merge.specs.Entries.{Reading, unless_anti}
+use Rattle.order_merge.specs.Entries.{Reading}
+use Rattle.order_merge.specs.Fitting.{unless_anti}
 use Rattle.order_merge.specs.Adding.{with_entry}
 
 -- the list after these entries were added, one after the other

@@ -3,6 +3,7 @@ pub mod Adding
 pub mod Ascending
 pub mod DeletedKeys
 pub mod Entries
+pub mod Fitting
 pub mod Merged
 pub mod Merging
 pub mod Places

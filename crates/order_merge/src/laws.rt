@@ -1,7 +1,8 @@
 //! Laws of lists that fit a table. Each is the contract of a function that does nothing.
 
 ghost use Rattle.std.specs.Prelude.{◌≡◌, ◌≢◌, ℕ, List, [], ◌∷◌, ◌++◌, Option, Some, None, true, false, is_some};
-ghost use Rattle.order_merge.specs.Entries.{Reading, Fits};
+ghost use Rattle.order_merge.specs.Entries.{Reading};
+ghost use Rattle.order_merge.specs.Fitting.{Fits};
 ghost use Rattle.order_merge.specs.Ascending.{IsKeyOrder};
 ghost use Rattle.order_merge.specs.Merged.{IsMergeOf};
 ghost use Rattle.order_merge.specs.Adding.{with_entry};

@@ -1,10 +1,12 @@
 -- What the lists in memory have at a key.
 use Rattle.std.proofs.Common.{◌≡◌, ℕ, List, [], ◌++◌, Option, Some, None, is_some, is_none, if◌then◌else◌, refl, sym, ◌∙◌, ap}
 use Rattle.std.specs.Option.{option_or, option_to_list, option_map}
-use Rattle.order_merge.specs.Entries.{Fits, entry_at, newest_at, living_at, unless_anti}
+use Rattle.order_merge.specs.Entries.{entry_at, newest_at}
+use Rattle.order_merge.specs.Fitting.{Fits, living_at, unless_anti}
 use Rattle.order_merge.specs.Views.{lists_of}
 use Rattle.primary_ix.specs.declared.rows.PrimRow.{PrimRow}
-use Rattle.primary_ix.specs.Rows.{Matter, prim_reading}
+use Rattle.primary_ix.specs.Rows.{Matter}
+use Rattle.primary_ix.specs.Reading.{prim_reading}
 use Rattle.geo_base.specs.declared.points.Row.{Row}
 use Rattle.table_model.specs.Table.{Table}
 use Rattle.primary_ix.specs.declared.component.PrimComp.{PrimComp}

@@ -6,8 +6,9 @@ use Rattle.btree_image.specs.Descent.{descent}
 use Rattle.order_merge.specs.Entries.{entry_at, newest_at}
 use Rattle.primary_ix.specs.declared.component.PrimComp.{PrimComp}
 use Rattle.primary_ix.specs.declared.rows.PrimRow.{PrimRow}
-use Rattle.primary_ix.specs.Rows.{prim_layout, prim_reading}
-use Rattle.btree_image.specs.Damage.{IsTested}
+use Rattle.primary_ix.specs.Rows.{prim_layout}
+use Rattle.primary_ix.specs.Reading.{prim_reading}
+use Rattle.btree_image.specs.Tested.{IsTested}
 use Rattle.primary_ix.specs.Pages.{IsTestedIn}
 use Rattle.primary_ix.specs.Lookups.{lookup_pages}
 

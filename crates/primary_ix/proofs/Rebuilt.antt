@@ -10,13 +10,14 @@ use Rattle.std.specs.Cmp.{nat_cmp_total, eq_by_cmp_equiv}
 use Rattle.std.specs.declared.cmp.Ordering.TheVariants.{Less, Equal, Greater}
 use Rattle.std.specs.FinMap.{find, is_sorted, entries, entries_sorted, get-entries, nat_cmp-IsAntisymmetric}
 use Rattle.std.specs.FinMap.Entries.{below_all, same_entries}
-use Rattle.order_merge.specs.Entries.{entry_at, newest_at, unless_anti, Fits}
+use Rattle.order_merge.specs.Entries.{entry_at, newest_at}
+use Rattle.order_merge.specs.Fitting.{unless_anti, Fits}
 use Rattle.order_merge.specs.Ascending.{Ascends}
 use Rattle.order_merge.specs.Merged.{IsMergeOf}
 use Rattle.order_merge.specs.laws.Living.{is_eq-Equal}
 use Rattle.table_model.specs.Table.{Table, Place, row_at}
 use Rattle.primary_ix.specs.declared.rows.PrimRow.{PrimRow}
-use Rattle.primary_ix.specs.Rows.{prim_reading}
+use Rattle.primary_ix.specs.Reading.{prim_reading}
 use Rattle.primary_ix.specs.Wanted.{matter_row, table_row, wanted_rows}
 use Rattle.primary_ix.specs.Records.{table_rows}
 use Rattle.primary_ix.specs.Laws.Fitting.{alive-wanted}

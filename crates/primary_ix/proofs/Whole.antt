@@ -17,7 +17,8 @@ use Rattle.btree_image.specs.Given.{AreRanges, rows_met, is_inside}
 use Rattle.order_merge.specs.Ascending.{Ascends}
 use Rattle.primary_ix.specs.declared.component.PrimComp.{PrimComp}
 use Rattle.primary_ix.specs.declared.rows.PrimRow.{PrimRow}
-use Rattle.primary_ix.specs.Rows.{prim_layout, prim_reading}
+use Rattle.primary_ix.specs.Rows.{prim_layout}
+use Rattle.primary_ix.specs.Reading.{prim_reading}
 use Rattle.primary_ix.specs.Scans.{all_keys, scan_pages}
 use Rattle.primary_ix.proofs.Passed.{past_end}
 

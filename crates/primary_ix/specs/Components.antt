@@ -1,8 +1,6 @@
 -- The components of the primary on disk, the newest first: what it means that they show lists.
 use Rattle.std.specs.Prelude.{◌≡◌, ℕ, ◌<◌, List, length, get_or, Option}
-use Rattle.tree_shape.specs.Shape.{IsRoot}
-use Rattle.btree_image.specs.Image.{shape_of}
-use Rattle.btree_image.specs.Pages.{IsShown}
+use Rattle.btree_image.specs.Shown.{IsShown}
 use Rattle.primary_ix.specs.declared.component.PrimComp.{PrimComp}
 use Rattle.primary_ix.specs.declared.rows.PrimRow.{PrimRow}
 use Rattle.primary_ix.specs.Rows.{prim_layout}
@@ -12,9 +10,3 @@ pub record AreShown (contents : Option (ℕ → List ℕ)) (comps : List PrimCom
   pub count : length disk ≡ length comps
   pub each : (i : ℕ) (comp : PrimComp) (list : List PrimRow) → i < length comps
       → IsShown prim_layout contents (get_or comps i comp).tree.first (get_or comps i comp).tree.rows (get_or disk i list)
-
--- these are the levels of the components' roots
-pub record AreRoots (comps : List PrimComp) (roots : List ℕ) : Type 0 where
-  pub count : length roots ≡ length comps
-  pub each : (i : ℕ) (comp : PrimComp) (root : ℕ) → i < length comps
-      → IsRoot (shape_of prim_layout (get_or comps i comp).tree.rows) (get_or roots i root)

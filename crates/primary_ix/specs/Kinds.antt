@@ -9,7 +9,8 @@ use Rattle.page_codec.specs.declared.kinds.TheConstants.{PRIMARY_LEAF, PRIMARY_I
 use Rattle.primary_ix.specs.declared.bytes.TheConstants.{KEY_BYTES}
 use Rattle.order_merge.specs.Ascending.{IsKeyOrder}
 use Rattle.order_merge.specs.laws.Numbers.{nat_cmp-IsKeyOrder}
-use Rattle.primary_ix.specs.Rows.{prim_layout, prim_reading}
+use Rattle.primary_ix.specs.Rows.{prim_layout}
+use Rattle.primary_ix.specs.Reading.{prim_reading}
 
 pub prim_key_order : IsKeyOrder prim_reading.order
 prim_key_order = nat_cmp-IsKeyOrder

@@ -1,9 +1,12 @@
 pub mod Components
+pub mod Damage
 pub mod Kinds
 pub mod Laws
 pub mod Lookups
 pub mod Pages
+pub mod Reading
 pub mod Records
+pub mod Roots
 pub mod Rows
 pub mod Scans
 pub mod Wanted

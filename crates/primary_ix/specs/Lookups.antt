@@ -5,7 +5,8 @@ use Rattle.order_merge.specs.Views.{lists_of}
 use Rattle.btree_image.specs.Descent.{descent}
 use Rattle.primary_ix.specs.declared.component.PrimComp.{PrimComp}
 use Rattle.primary_ix.specs.declared.rows.PrimRow.{PrimRow}
-use Rattle.primary_ix.specs.Rows.{prim_layout, prim_reading}
+use Rattle.primary_ix.specs.Rows.{prim_layout}
+use Rattle.primary_ix.specs.Reading.{prim_reading}
 
 -- a descent in each component, the newest first, up to the first that has the key
 unfoldable pub lookup_pages : (key : ℕ) → List PrimComp → (disk : List (List PrimRow)) → (roots : List ℕ) → List ℕ

@@ -1,9 +1,8 @@
--- The rows of the primary: how they are ordered and hide each other, and their bytes on a leaf.
+-- The rows of the primary: how they are ordered, and their bytes on a leaf.
 -- Key 8, anti 1, length of the note 1, x 2, y 2, and the note with zeros behind it, 64. An anti row has length 0, x 0, y 0.
-use Rattle.std.specs.Prelude.{ℕ, ◌+◌, ◌-◌, ◌==◌, nat_lt, List, [], ◌∷◌, ◌++◌, length, take, drop, replicate, slice_index, Option, Some, None, is_none, if◌then◌else◌}
+use Rattle.std.specs.Prelude.{ℕ, ◌+◌, ◌-◌, ◌==◌, nat_lt, List, [], ◌∷◌, ◌++◌, length, take, drop, replicate, slice_index, Option, Some, None, if◌then◌else◌}
 use Rattle.std.specs.Int.{to_be_bytes, from_be_bytes, w16, w64}
 use Rattle.std.specs.Ordering.{nat_cmp}
-use Rattle.order_merge.specs.Entries.{Reading}
 use Rattle.btree_image.specs.Rows.{Layout}
 use Rattle.geo_base.specs.Notes.{note_fault}
 use Rattle.geo_base.specs.declared.limits.TheConstants.{NOTE_ROOM}
@@ -15,9 +14,6 @@ use Rattle.primary_ix.specs.declared.rows.PrimRow.{PrimRow}
 -- what a row says of its key: a point and a note, or that it has none
 abbrev pub Matter : Type 0
 Matter = Option (Point × List ℕ)
-
-abbrev pub prim_reading : Reading PrimRow ℕ
-prim_reading = record { key_of = λ row. row.key; is_anti = λ row. is_none row.matter; order = nat_cmp }
 
 abbrev pub anti_byte : Matter → ℕ
 anti_byte None = 1

@@ -7,7 +7,8 @@ ghost use Rattle.page_codec.specs.Page.{ShowsRows};
 ghost use Rattle.tree_shape.specs.Shape.{level_start, IsRoot, IsPlace};
 ghost use Rattle.btree_image.specs.Image.{shape_of, level_rows, level_kind};
 ghost use Rattle.btree_image.specs.Pages.{level_page};
-ghost use Rattle.primary_ix.specs.Rows.{prim_reading, prim_layout};
+ghost use Rattle.primary_ix.specs.Rows.{prim_layout};
+ghost use Rattle.primary_ix.specs.Reading.{prim_reading};
 
 use crate::rows::PrimRow;
 use btree_image::{load_page, pages_for};

@@ -3,7 +3,8 @@
 ghost use Rattle.std.specs.Prelude.{◌≡◌, ℕ, [], ◌∷◌, ◌++◌, ◌↔◌, List, Some, None, true, false};
 ghost use Rattle.std.specs.FinMap.{empty};
 ghost use Rattle.order_merge.specs.Ascending as entries;
-ghost use Rattle.order_merge.specs.Entries.{Fits, entry_at};
+ghost use Rattle.order_merge.specs.Entries.{entry_at};
+ghost use Rattle.order_merge.specs.Fitting.{Fits};
 ghost use Rattle.order_merge.specs.Merged.{IsMergeOf};
 ghost use Rattle.order_merge.specs.Adding.{with_entry};
 ghost use Rattle.order_merge.specs.Views.{lists_of};
@@ -13,7 +14,8 @@ ghost use Rattle.table_model.specs.Table.{Table};
 ghost use Rattle.table_model.specs.Commands.{Write};
 ghost use Rattle.table_model.specs.Answers.{after_write};
 ghost use Rattle.primary_ix.specs.declared.rows.PrimRow.{PrimRow};
-ghost use Rattle.primary_ix.specs.Rows.{prim_reading, prim_layout};
+ghost use Rattle.primary_ix.specs.Rows.{prim_layout};
+ghost use Rattle.primary_ix.specs.Reading.{prim_reading};
 ghost use Rattle.primary_ix.specs.Wanted.{wanted_rows, written_row};
 ghost use Rattle.primary_ix.specs.Records.{table_rows};
 

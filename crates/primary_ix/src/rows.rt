@@ -22,7 +22,7 @@ pub struct PrimRow {
 }
 
 impl Entry for PrimRow {
-    ghost use Rattle.primary_ix.specs.Rows.{prim_reading};
+    ghost use Rattle.primary_ix.specs.Reading.{prim_reading};
     ghost use Rattle.primary_ix.specs.Kinds.{prim_key_order};
 
     type Key = u64;

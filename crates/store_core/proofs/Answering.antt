@@ -5,7 +5,7 @@ use Rattle.dev_model.specs.Story.{Story, WhereTold, clock_of}
 use Rattle.geo_base.specs.declared.points.Row.{Row}
 use Rattle.page_codec.specs.declared.faults.PageFault.{PageFault}
 use Rattle.page_codec.specs.declared.faults.PageFault.TheVariants as page
-use Rattle.primary_ix.specs.Pages.{IsDamagedIn}
+use Rattle.primary_ix.specs.Damage.{IsDamagedIn}
 use Rattle.primary_ix.specs.Wanted.{table_row}
 use Rattle.primary_ix.specs.declared.rows.PrimRow.{PrimRow}
 use Rattle.table_model.specs.Table.{Table}

@@ -16,7 +16,8 @@ use Rattle.tree_shape.specs.Given.{given}
 use Rattle.device_pages.specs.ReadsMade.{reads_made}
 use Rattle.device_pages.specs.Claims.{MadeReads}
 use Rattle.device_pages.specs.Lending.{contents_of}
-use Rattle.primary_ix.specs.Pages.{IsDamagedIn, IsTestedIn}
+use Rattle.primary_ix.specs.Pages.{IsTestedIn}
+use Rattle.primary_ix.specs.Damage.{IsDamagedIn}
 use Rattle.wal_log.specs.Records.{record_bytes}
 use Rattle.wal_log.specs.Changes.{append_calls}
 use Rattle.wal_log.specs.declared.log.Log.{Log}

@@ -8,7 +8,8 @@ use Rattle.dev_model.specs.declared.calls.DeviceCall.{DeviceCall}
 use Rattle.page_codec.specs.declared.pages.TheConstants.{PAGE_BYTES}
 use Rattle.tree_shape.specs.Asked.{EndsWith}
 use Rattle.device_pages.specs.Lending.{contents_of}
-use Rattle.primary_ix.specs.Pages.{IsDamagedIn, IsTestedIn}
+use Rattle.primary_ix.specs.Pages.{IsTestedIn}
+use Rattle.primary_ix.specs.Damage.{IsDamagedIn}
 use Rattle.primary_ix.specs.declared.component.PrimComp.{PrimComp}
 use Rattle.store_state.specs.Lists.{extents_of, trees_of}
 use Rattle.store_machine.specs.Standing.{StoreState}

@@ -6,8 +6,9 @@ use Rattle.std.specs.Option.{option_map, option_or}
 use Rattle.std.specs.Ordering.{nat_cmp, eq_by_cmp}
 use Rattle.std.specs.Cmp.{nat_cmp_total, unsigned_tied}
 use Rattle.std.specs.FinMap.{empty, insert, remove, get, len, entries, find, put, entries-insert, entries-from_sorted, from_sorted, empty_of_len, len-entries, len-remove, get-empty, get-entries, get-insert}
-use Rattle.order_merge.specs.Entries.{Fits, entry_at, newest_at, unless_anti}
-use Rattle.primary_ix.specs.Rows.{prim_reading}
+use Rattle.order_merge.specs.Entries.{entry_at, newest_at}
+use Rattle.order_merge.specs.Fitting.{Fits, unless_anti}
+use Rattle.primary_ix.specs.Reading.{prim_reading}
 use Rattle.primary_ix.specs.Wanted.{matter_row, table_row, wanted_rows}
 use Rattle.primary_ix.specs.declared.rows.PrimRow.{PrimRow}
 use Rattle.table_model.specs.Table.{Place, Table, place_of, row_at, rows_of}

@@ -2,7 +2,7 @@
 use Rattle.std.specs.Prelude.{◌≡◌, ℕ, List, [], ◌∷◌, Option, Some, None, Err}
 use Rattle.dev_model.specs.Story.{Calls, Story, WhereTold, after, clock_of}
 use Rattle.device_pages.specs.Lending.{contents_of}
-use Rattle.primary_ix.specs.Pages.{IsDamagedIn}
+use Rattle.primary_ix.specs.Damage.{IsDamagedIn}
 use Rattle.store_state.specs.Lists.{extents_of, trees_of}
 use Rattle.store_machine.specs.Machine.{Machine, after_event}
 use Rattle.store_machine.specs.declared.events.Refusal.TheVariants.{Damaged}

@@ -14,7 +14,7 @@ use Rattle.wal_log.specs.State.{newest, turn_calls}
 use Rattle.wal_log.specs.declared.log.Log.{Log}
 use Rattle.wal_log.specs.declared.places.TheConstants.{RECORD_BYTES}
 use Rattle.comp_dir.specs.Resting.{install_calls}
-use Rattle.primary_ix.specs.Components.{AreRoots}
+use Rattle.primary_ix.specs.Roots.{AreRoots}
 use Rattle.primary_ix.specs.Lookups.{view_pages}
 use Rattle.primary_ix.specs.Scans.{scan_pages}
 use Rattle.primary_ix.specs.declared.rows.PrimRow.{PrimRow}

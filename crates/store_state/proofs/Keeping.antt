@@ -12,7 +12,8 @@ use Rattle.comp_dir.specs.Directory.{Numbered}
 use Rattle.comp_dir.specs.declared.places.TheConstants.{LSN_LIMIT, MOST_LIVE, PRIMARY}
 use Rattle.comp_dir.specs.declared.slots.Slot.{Slot}
 use Rattle.primary_ix.specs.Kinds.{prim_key_order}
-use Rattle.primary_ix.specs.Rows.{prim_layout, prim_reading}
+use Rattle.primary_ix.specs.Rows.{prim_layout}
+use Rattle.primary_ix.specs.Reading.{prim_reading}
 use Rattle.primary_ix.specs.declared.rows.PrimRow.{PrimRow}
 use Rattle.build_job.specs.Jobs.{described}
 use Rattle.store_state.specs.declared.jobs.JobRow.{JobRow}

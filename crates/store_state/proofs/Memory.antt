@@ -3,7 +3,7 @@ use Rattle.std.proofs.Common.{◌≡◌, ℕ, List, [], ◌++◌, Option, Some, 
 use Rattle.std.specs.Option.{option_or, option_to_list}
 use Rattle.order_merge.specs.Entries.{entry_at, newest_at}
 use Rattle.primary_ix.specs.declared.rows.PrimRow.{PrimRow}
-use Rattle.primary_ix.specs.Rows.{prim_reading}
+use Rattle.primary_ix.specs.Reading.{prim_reading}
 use Rattle.primary_ix.specs.Lookups.{in_memory}
 
 alone : (found : Option PrimRow) → option_or found None ≡ found

@@ -11,7 +11,8 @@ use Rattle.comp_dir.specs.Directory.{Numbered}
 use Rattle.comp_dir.specs.Parts.{HasPages}
 use Rattle.comp_dir.specs.Rules.{IsSound}
 use Rattle.comp_dir.specs.declared.places.TheConstants.{FIRST_DATA_PAGE, MOST_LIVE, PRIMARY, SLOTS}
-use Rattle.primary_ix.specs.Rows.{prim_layout, prim_reading}
+use Rattle.primary_ix.specs.Rows.{prim_layout}
+use Rattle.primary_ix.specs.Reading.{prim_reading}
 use Rattle.primary_ix.specs.declared.rows.PrimRow.{PrimRow}
 use Rattle.store_state.specs.declared.jobs.JobRow.{JobRow}
 use Rattle.store_state.specs.Lists.{Lists, open_of, extents_of, placed_up_to, frozen_rows}

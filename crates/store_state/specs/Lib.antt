@@ -3,6 +3,7 @@ pub mod Begun
 pub mod EveryList
 pub mod Laws
 pub mod Lists
+pub mod NextPage
 pub mod Opened
 pub mod OwnJob
 pub mod Room

@@ -4,7 +4,7 @@ use Rattle.std.specs.Option.{option_map}
 use Rattle.dev_model.specs.Counts.{next_count}
 use Rattle.order_merge.specs.Adding.{with_entry}
 use Rattle.space_map.specs.Space.{reserved_with}
-use Rattle.primary_ix.specs.Rows.{prim_reading}
+use Rattle.primary_ix.specs.Reading.{prim_reading}
 use Rattle.primary_ix.specs.declared.rows.PrimRow.{PrimRow}
 use Rattle.build_job.specs.Jobs.{described}
 use Rattle.store_state.specs.declared.jobs.JobRow.{JobRow}

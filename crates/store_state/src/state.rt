@@ -7,7 +7,7 @@ ghost use Rattle.primary_ix.specs.Lookups.{in_memory};
 ghost use Rattle.space_map.specs.Space.{end_of, is_reserved};
 ghost use Rattle.store_state.specs.Lists.{trees_of, extents_of, frozen_rows, placed_up_to};
 ghost use Rattle.store_state.specs.EveryList.{IsLists, IsOpenSlot};
-ghost use Rattle.store_state.specs.OwnJob.{HasPageLeft, IsAllWritten};
+ghost use Rattle.store_state.specs.NextPage.{HasPageLeft, IsAllWritten};
 ghost use Rattle.store_state.specs.Opened.{placed_rows, opened};
 ghost use Rattle.store_state.specs.Begun.{Begins};
 ghost use Rattle.store_state.specs.Steps.{rows_with, added, frozen_at, one_written, installed};

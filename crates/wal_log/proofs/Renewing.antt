@@ -3,12 +3,12 @@ use Rattle.std.proofs.Common.{◌≡◌, ◌≢◌, ◌⊎◌, inl, inr, ⊎_eli
 use Rattle.std.proofs.lemmas.Bool.Decides.{nat_tests}
 use Rattle.std.proofs.lemmas.Option.{same_Some}
 use Rattle.std.proofs.lemmas.Nat.{from_be_bytes-to_be_bytes_8}
-use Rattle.wal_log.specs.Headers.{generation_in, first_lsn_in, header_bytes}
+use Rattle.wal_log.specs.Headers.{generation_in, first_lsn_in}
+use Rattle.wal_log.specs.State.{header_bytes, HasLast, IsLogOf, following}
 use Rattle.wal_log.specs.Records.{record_of}
 use Rattle.wal_log.specs.Segments.{Segment, Segments}
 use Rattle.wal_log.specs.Growing.{started_segment}
 use Rattle.wal_log.specs.Rules.{Numbered, generation_of, first_lsn_of, next_lsn_of, placed, ordered, in_order, HasStart, IsSound, AreSound, Opens, OpensFrom, records_in, records_of}
-use Rattle.wal_log.specs.State.{HasLast, IsLogOf, following}
 use Rattle.wal_log.specs.Counted.{IsCounted}
 use Rattle.wal_log.specs.Changes.{IsTurning, HasSameRecords, first_header}
 use Rattle.wal_log.specs.declared.log.Log.{Log}

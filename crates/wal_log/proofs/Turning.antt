@@ -16,10 +16,9 @@ use Rattle.wal_log.proofs.Growing.{rests-at}
 use Rattle.wal_log.proofs.Planned.{Leaves, leaves-one, leaves-more}
 use Rattle.wal_log.proofs.Spelled.{length-header_bytes}
 use Rattle.wal_log.specs.Places.{segment_start}
-use Rattle.wal_log.specs.Headers.{header_bytes}
+use Rattle.wal_log.specs.State.{header_bytes, IsStill, IsAtRest, newest, following, close_calls_if, start_calls, turn_calls}
 use Rattle.wal_log.specs.Segments.{Segments, segment_records, segment_at, segments_of, IsLooked}
 use Rattle.wal_log.specs.Growing.{started_segment}
-use Rattle.wal_log.specs.State.{IsStill, IsAtRest, newest, following, close_calls_if, start_calls, turn_calls}
 use Rattle.wal_log.specs.Changes.{IsOneOf, IsTurning, first_header}
 use Rattle.wal_log.specs.declared.log.Log.{Log}
 use Rattle.wal_log.specs.Laws.Agreeing.{segment_at-shut, segment_at-same, segments_of-at_one, segments_of-set, segments-elsewhere, segment_at-started, looked-elsewhere, looked-back}

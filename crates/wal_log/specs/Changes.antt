@@ -2,7 +2,7 @@
 use Rattle.std.specs.Prelude.{◌≡◌, ◌⊎◌, ℕ, ◌+◌, List, [], ◌∷◌, ◌++◌, map, get_or, set, Bool, if◌then◌else◌, None, Some}
 use Rattle.dev_model.specs.Story.{Write, Sync, Calls}
 use Rattle.wal_log.specs.Places.{record_start}
-use Rattle.wal_log.specs.Headers.{header_bytes}
+use Rattle.wal_log.specs.State.{header_bytes, newest}
 use Rattle.wal_log.specs.Records.{record_bytes}
 use Rattle.wal_log.specs.Segments.{Segments}
 use Rattle.wal_log.specs.Growing.{with_records, behind_gate, started_segment}
@@ -10,7 +10,6 @@ use Rattle.wal_log.specs.Rules.{Opens, records_of}
 use Rattle.wal_log.specs.declared.places.TheConstants.{OPEN}
 use Rattle.wal_log.specs.declared.log.Log.{Log}
 use Rattle.wal_log.specs.declared.records.Record.{Record}
-use Rattle.wal_log.specs.State.{newest}
 
 -- Records one behind another, with the open gates between them and a closed gate behind the last, and then the gate of the first,
 -- open. With that gate all of them stand, and none before.

@@ -4,13 +4,15 @@ use Rattle.std.specs.Option.{option_map, option_or}
 use Rattle.std.specs.Ordering.{nat_cmp, eq_by_cmp}
 use Rattle.std.specs.FinMap.{get, get-empty, nat_cmp-IsAntisymmetric}
 use Rattle.table_model.specs.Table.{Table, Place, row_at}
-use Rattle.order_merge.specs.Entries.{entry_at, newest_at, unless_anti, Fits}
+use Rattle.order_merge.specs.Entries.{entry_at, newest_at}
+use Rattle.order_merge.specs.Fitting.{unless_anti, Fits}
 use Rattle.order_merge.specs.Views.{lists_of}
 use Rattle.order_merge.specs.laws.Living.{is_eq-Equal}
 use Rattle.wal_log.specs.declared.records.Record.{Record}
 use Rattle.image_model.specs.Recovered.{replayed}
 use Rattle.image_model.specs.Laws.Recovered.{replayed-append}
-use Rattle.primary_ix.specs.Rows.{Matter, prim_reading}
+use Rattle.primary_ix.specs.Rows.{Matter}
+use Rattle.primary_ix.specs.Reading.{prim_reading}
 use Rattle.primary_ix.specs.Wanted.{matter_row, wanted_rows}
 use Rattle.primary_ix.specs.declared.rows.PrimRow.{PrimRow}
 use Rattle.component_image.specs.Changes.{changed, IsFrozenOf}

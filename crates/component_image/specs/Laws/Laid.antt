@@ -14,7 +14,8 @@ use Rattle.order_merge.specs.laws.Living.{entry_at-with_entry}
 use Rattle.order_merge.specs.laws.Numbers.{nat_cmp-IsKeyOrder}
 use Rattle.wal_log.specs.declared.records.Record.{Record}
 use Rattle.image_model.specs.Recovered.{write_of, replayed}
-use Rattle.primary_ix.specs.Rows.{Matter, prim_reading}
+use Rattle.primary_ix.specs.Rows.{Matter}
+use Rattle.primary_ix.specs.Reading.{prim_reading}
 use Rattle.primary_ix.specs.Wanted.{written_row}
 use Rattle.primary_ix.specs.declared.rows.PrimRow.{PrimRow}
 use Rattle.component_image.specs.Laid.{place_in, with_matter, laid}

@@ -14,7 +14,8 @@ use Rattle.tree_shape.specs.Shape.{level_start, IsPlace}
 use Rattle.tree_shape.specs.declared.levels.Shape.{Shape}
 use Rattle.tree_shape.specs.Laws.Places.{before_root}
 use Rattle.btree_image.specs.Image.{shape_of, level_kind, level_rows}
-use Rattle.btree_image.specs.Pages.{page_number, IsShown}
+use Rattle.btree_image.specs.Pages.{page_number}
+use Rattle.btree_image.specs.Shown.{IsShown}
 use Rattle.btree_image.specs.Lent.{AreLent}
 use Rattle.comp_dir.specs.Directory.{Numbered}
 use Rattle.comp_dir.specs.Parts.{HasPages, main_tree, tree}

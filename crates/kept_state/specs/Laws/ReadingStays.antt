@@ -25,8 +25,8 @@ use Rattle.comp_dir.specs.declared.places.TheConstants.{FIRST_DATA_PAGE}
 use Rattle.comp_dir.specs.declared.slots.Slot.{Slot}
 use Rattle.page_codec.specs.declared.pages.TheConstants.{PAGE_BYTES}
 use Rattle.btree_image.specs.Image.{ShowsTree}
-use Rattle.btree_image.specs.Pages.{IsShown}
-use Rattle.order_merge.specs.Entries.{Fits}
+use Rattle.btree_image.specs.Shown.{IsShown}
+use Rattle.order_merge.specs.Fitting.{Fits}
 use Rattle.order_merge.specs.Views.{lists_of}
 use Rattle.order_merge.specs.laws.Living.{Fits-frozen}
 use Rattle.device_pages.specs.Lending.{is_lent, page_bytes, contents_of}
@@ -34,7 +34,8 @@ use Rattle.device_pages.specs.LentPlaces.{IsLentPlace}
 use Rattle.device_pages.specs.Laws.Lending.{contents-readable, contents-settled, contents-told, contents-spared, page_bytes-spared}
 use Rattle.primary_ix.specs.Components.{AreShown}
 use Rattle.primary_ix.specs.Laws.Fitting.{Fits-write}
-use Rattle.primary_ix.specs.Rows.{prim_layout, prim_reading}
+use Rattle.primary_ix.specs.Rows.{prim_layout}
+use Rattle.primary_ix.specs.Reading.{prim_reading}
 use Rattle.primary_ix.specs.Wanted.{wanted_rows, written_row}
 use Rattle.primary_ix.specs.declared.component.PrimComp.{PrimComp}
 use Rattle.primary_ix.specs.declared.rows.PrimRow.{PrimRow}

@@ -6,7 +6,8 @@ use Rattle.std.specs.Ordering.{eq_by_cmp, is_eq}
 use Rattle.std.specs.Cmp.{alike_right}
 use Rattle.std.specs.declared.cmp.Ordering.{Ordering}
 use Rattle.std.specs.declared.cmp.Ordering.TheVariants.{Less, Equal, Greater}
-use Rattle.order_merge.specs.Entries.{Reading, entry_at, newest_at, unless_anti, Fits}
+use Rattle.order_merge.specs.Entries.{Reading, entry_at, newest_at}
+use Rattle.order_merge.specs.Fitting.{unless_anti, Fits}
 use Rattle.order_merge.specs.Ascending.{IsKeyOrder}
 use Rattle.order_merge.specs.Merged.{IsMergeOf}
 use Rattle.order_merge.specs.Adding.{with_entry, by_ordering}

@@ -5,7 +5,7 @@ use Rattle.std.specs.Ordering.{eq_by_cmp, is_eq}
 use Rattle.std.specs.Cmp.{tied_itself}
 use Rattle.std.proofs.lemmas.Bool.Decides.{Decides-eqb}
 use Rattle.std.specs.declared.cmp.Ordering.TheVariants.{Equal}
-use Rattle.order_merge.specs.Entries.{Fits}
+use Rattle.order_merge.specs.Fitting.{Fits}
 use Rattle.order_merge.specs.Ascending.{IsKeyOrder}
 use Rattle.order_merge.specs.Adding.{with_entry}
 use Rattle.order_merge.specs.Added.{with_entries, wanted_with}

@@ -5,7 +5,8 @@ use Rattle.std.specs.Ordering.{nat_cmp, eq_by_cmp}
 use Rattle.std.specs.Cmp.{nat_cmp_total, eq_by_cmp_equiv}
 use Rattle.std.specs.FinMap.{empty, get, get-empty, get-insert, get-remove, insert, remove, nat_cmp-IsAntisymmetric}
 use Rattle.geo_base.specs.declared.points.Row.{Row}
-use Rattle.order_merge.specs.Entries.{Fits, entry_at, newest_at, unless_anti}
+use Rattle.order_merge.specs.Entries.{entry_at, newest_at}
+use Rattle.order_merge.specs.Fitting.{Fits, unless_anti}
 use Rattle.order_merge.specs.Adding.{with_entry}
 use Rattle.order_merge.specs.Added.{wanted_with}
 use Rattle.order_merge.specs.laws.Living.{Fits-with_entry, is_eq-Equal}
@@ -14,7 +15,7 @@ use Rattle.table_model.specs.Commands.{Write, put, del}
 use Rattle.table_model.specs.Answers.{after_write}
 use Rattle.primary_ix.specs.declared.rows.PrimRow.{PrimRow}
 use Rattle.primary_ix.specs.Kinds.{prim_key_order}
-use Rattle.primary_ix.specs.Rows.{prim_reading}
+use Rattle.primary_ix.specs.Reading.{prim_reading}
 use Rattle.primary_ix.specs.Wanted.{matter_row, wanted_rows, written_row}
 
 turned : (key k : ℕ) → eq_by_cmp nat_cmp key k ≡ eq_by_cmp nat_cmp k key

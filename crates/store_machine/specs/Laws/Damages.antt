@@ -6,7 +6,7 @@ use Rattle.dev_model.specs.Doing.{HasStoppedIn, all_noted}
 use Rattle.dev_model.specs.Laws.Plans.{all_noted-told, Did-untold, no_story}
 use Rattle.dev_model.specs.Laws.Runs.{after-append}
 use Rattle.device_pages.specs.Lending.{contents_of}
-use Rattle.primary_ix.specs.Pages.{IsDamagedIn}
+use Rattle.primary_ix.specs.Damage.{IsDamagedIn}
 use Rattle.store_state.specs.Lists.{Lists, extents_of, trees_of}
 use Rattle.store_machine.specs.Damage.{damaged_page, WasDamaged, DamagesAre}
 use Rattle.store_machine.specs.Devices.{DeviceState}

@@ -18,8 +18,9 @@ use Rattle.device_pages.specs.ReadsMade.{reads_made}
 use Rattle.device_pages.specs.Claims.{MadeReads}
 use Rattle.device_pages.specs.Laws.Asked.{clock-given, contents-asked}
 use Rattle.device_pages.specs.Lending.{contents_of, is_lent}
-use Rattle.primary_ix.specs.Pages.{IsDamagedIn}
-use Rattle.primary_ix.specs.Components.{AreRoots, AreShown}
+use Rattle.primary_ix.specs.Damage.{IsDamagedIn}
+use Rattle.primary_ix.specs.Components.{AreShown}
+use Rattle.primary_ix.specs.Roots.{AreRoots}
 use Rattle.primary_ix.specs.declared.rows.PrimRow.{PrimRow}
 use Rattle.store_state.specs.Lists.{Lists, extents_of, trees_of}
 use Rattle.store_machine.specs.Crash.{attempted, Keeps, RecoversFirst}

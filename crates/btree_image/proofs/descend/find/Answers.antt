@@ -3,8 +3,9 @@ use Rattle.std.specs.Prelude.{IsTrue}
 use Rattle.std.proofs.lemmas.List.Elements.{All-append, All-cons}
 use Rattle.tree_shape.specs.Shape.{IsPlace}
 use Rattle.btree_image.specs.Image.{shape_of}
-use Rattle.btree_image.specs.Pages.{page_number, IsShown}
-use Rattle.btree_image.specs.Damage.{IsTested}
+use Rattle.btree_image.specs.Pages.{page_number}
+use Rattle.btree_image.specs.Shown.{IsShown}
+use Rattle.btree_image.specs.Tested.{IsTested}
 use Rattle.btree_image.proofs.Told.{tested_last}
 use Rattle.btree_image.specs.Descent.{place_of_key, descent}
 use Rattle.btree_image.proofs.Widths.{leaf_room, inner_room}

@@ -2,9 +2,9 @@ use Rattle.std.proofs.Common.{◌≡◌, ℕ, ◌≤◌, List, ◌++◌, All}
 use Rattle.std.specs.Prelude.{IsTrue}
 use Rattle.tree_shape.specs.Shape.{IsRoot, IsPlace}
 use Rattle.btree_image.specs.Image.{shape_of}
-use Rattle.btree_image.specs.Pages.{IsShown}
+use Rattle.btree_image.specs.Shown.{IsShown}
 use Rattle.btree_image.specs.Descent.{place_of_key, descent}
-use Rattle.btree_image.specs.Damage.{IsTested}
+use Rattle.btree_image.specs.Tested.{IsTested}
 use Rattle.dev_model.specs.Story.{WhereTold}
 use Rattle.tree_shape.specs.Given.{given}
 use Rattle.btree_image.proofs.descend.find.Given as goal

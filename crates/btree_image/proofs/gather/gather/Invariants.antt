@@ -1,7 +1,8 @@
 use Rattle.std.proofs.Common.{◌≡◌, ℕ, suc, ◌<◌, ◌≤◌, List, [], ◌++◌, None, map, drop, length, get_or}
 use Rattle.std.specs.List.{flat_map}
 use Rattle.btree_image.specs.declared.runs.Run.{Run}
-use Rattle.btree_image.specs.Pages.{page_number, IsShown}
+use Rattle.btree_image.specs.Pages.{page_number}
+use Rattle.btree_image.specs.Shown.{IsShown}
 use Rattle.btree_image.specs.Given.{AreRanges, rows_met}
 use Rattle.btree_image.specs.Walks.{GoesOn, Holds, in_hand, walk, AllLead, rows_of}
 use Rattle.btree_image.proofs.gather.gather.Given as goal

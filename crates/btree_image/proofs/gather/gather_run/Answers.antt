@@ -2,7 +2,8 @@ use Rattle.std.proofs.Common.{◌-◌, ◌*◌, ◌≤◌, ◌++◌, max, min, s
 use Rattle.std.proofs.lemmas.List.{append-nil}
 use Rattle.page_codec.specs.Page.{most_rows}
 use Rattle.btree_image.specs.Descent.{rank}
-use Rattle.btree_image.specs.Pages.{page_number, IsShown}
+use Rattle.btree_image.specs.Pages.{page_number}
+use Rattle.btree_image.specs.Shown.{IsShown}
 use Rattle.btree_image.specs.Walks.{IsInHand, in_hand, part, rank_below}
 use Rattle.btree_image.proofs.Widths.{leaf_room, inner_room}
 use Rattle.btree_image.proofs.Along.{goes-then, goes-short, goes-same, goes-nowhere}

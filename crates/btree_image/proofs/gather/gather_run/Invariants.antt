@@ -1,6 +1,7 @@
 use Rattle.std.proofs.Common.{◌≡◌, suc, ◌*◌, ◌≤◌, List, ◌++◌, None, map, min, max}
 use Rattle.page_codec.specs.Page.{most_rows}
-use Rattle.btree_image.specs.Pages.{page_number, IsShown}
+use Rattle.btree_image.specs.Pages.{page_number}
+use Rattle.btree_image.specs.Shown.{IsShown}
 use Rattle.btree_image.specs.Descent.{rank}
 use Rattle.btree_image.specs.Walks.{GoesOn, Holds, in_hand, places_in, next_behind, rank_below, Leads, part}
 use Rattle.btree_image.proofs.gather.gather_run.Given as goal

@@ -3,7 +3,8 @@ use Rattle.std.proofs.lemmas.List.{get_or-set_other, length-set}
 use Rattle.std.specs.declared.cmp.Ordering.TheVariants.{Less, Greater}
 use Rattle.btree_image.specs.declared.runs.Run.{Run}
 use Rattle.btree_image.specs.Image.{shape_of}
-use Rattle.btree_image.specs.Pages.{page_number, IsShown}
+use Rattle.btree_image.specs.Pages.{page_number}
+use Rattle.btree_image.specs.Shown.{IsShown}
 use Rattle.tree_shape.specs.Shape.{level_size}
 use Rattle.btree_image.specs.Walks.{IsInHand, places_in, next_behind, walk, run_of, Leads}
 use Rattle.btree_image.proofs.Along.{goes-on, goes-short, goes-same, goes-nowhere}

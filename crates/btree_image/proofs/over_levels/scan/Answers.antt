@@ -1,6 +1,6 @@
 use Rattle.std.proofs.Common.{◌≢◌, List, sym, subst}
 use Rattle.std.specs.Prelude.{AllPairs, Err}
-use Rattle.btree_image.specs.Pages.{IsShown}
+use Rattle.btree_image.specs.Shown.{IsShown}
 use Rattle.btree_image.proofs.Along.{went-along, along-by, fault-told, sound-at}
 use Rattle.btree_image.proofs.Once.{pairs-front}
 use Rattle.btree_image.proofs.over_levels.scan.Goals as goal

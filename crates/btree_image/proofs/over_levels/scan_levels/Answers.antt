@@ -4,7 +4,8 @@ use Rattle.std.proofs.lemmas.Bool.{eqb-true, eqb-false}
 use Rattle.btree_image.specs.declared.runs.Run.{Run}
 use Rattle.tree_shape.specs.Shape.{level_size, level_start}
 use Rattle.btree_image.specs.Image.{shape_of}
-use Rattle.btree_image.specs.Pages.{page_number, IsShown}
+use Rattle.btree_image.specs.Pages.{page_number}
+use Rattle.btree_image.specs.Shown.{IsShown}
 use Rattle.btree_image.specs.Visited.{met_below, visited_pages}
 use Rattle.btree_image.specs.Walks.{fault_of, walk, AllLead}
 use Rattle.btree_image.proofs.Widths.{leaf_room, inner_room}

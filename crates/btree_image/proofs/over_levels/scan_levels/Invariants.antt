@@ -1,7 +1,8 @@
 use Rattle.std.proofs.Common.{◌≡◌, ◌≢◌, ℕ, suc, ◌+◌, ◌<◌, ◌≤◌, List, [], ◌++◌, None, map, length, All, AllPairs}
 use Rattle.tree_shape.specs.Shape.{level_size, level_start, IsRoot}
 use Rattle.btree_image.specs.Image.{shape_of}
-use Rattle.btree_image.specs.Pages.{page_number, IsShown}
+use Rattle.btree_image.specs.Pages.{page_number}
+use Rattle.btree_image.specs.Shown.{IsShown}
 use Rattle.btree_image.specs.Visited.{met_below, visited_pages}
 use Rattle.btree_image.specs.Given.{AreRanges}
 use Rattle.btree_image.specs.Walks.{GoesOn, walk, AllLead}

@@ -1,5 +1,5 @@
 use Rattle.order_merge.specs.laws.Living.{Fits-frozen, Fits-merge, Fits-merge_oldest}
-use Rattle.primary_ix.specs.Rows.{prim_reading}
+use Rattle.primary_ix.specs.Reading.{prim_reading}
 use Rattle.primary_ix.specs.Wanted.{wanted_rows}
 use Rattle.primary_ix.proofs.laws.placed_rows_fit.Goals as goal
 

@@ -2,7 +2,7 @@ use Rattle.std.proofs.Common.{◌≡◌, List, ◌++◌, true, map, ◌∙◌, a
 use Rattle.order_merge.specs.Merged.{IsMergeOf}
 use Rattle.order_merge.specs.Views.{lists_of}
 use Rattle.primary_ix.specs.declared.rows.PrimRow.{PrimRow}
-use Rattle.primary_ix.specs.Rows.{prim_reading}
+use Rattle.primary_ix.specs.Reading.{prim_reading}
 use Rattle.primary_ix.proofs.Memory.{lists-join}
 use Rattle.primary_ix.proofs.Rebuilt.{merged-table}
 use Rattle.primary_ix.proofs.living.living_rows.Goals as goal

@@ -6,7 +6,7 @@ use Rattle.tree_shape.specs.Laws.Trail.{went-err}
 use Rattle.order_merge.specs.Ascending.{Ascends}
 use Rattle.primary_ix.specs.declared.component.PrimComp.{PrimComp}
 use Rattle.primary_ix.specs.declared.rows.PrimRow.{PrimRow}
-use Rattle.primary_ix.specs.Rows.{prim_reading}
+use Rattle.primary_ix.specs.Reading.{prim_reading}
 use Rattle.primary_ix.specs.Components.{AreShown}
 use Rattle.primary_ix.specs.Pages.{IsTestedIn}
 use Rattle.primary_ix.proofs.Joined.{went-join, asked-join, lent-join, left-join, whole-join}

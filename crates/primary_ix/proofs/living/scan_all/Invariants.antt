@@ -4,8 +4,9 @@ use Rattle.dev_model.specs.Story.{WhereTold}
 use Rattle.tree_shape.specs.Given.{given}
 use Rattle.order_merge.specs.Ascending.{Ascends}
 use Rattle.primary_ix.specs.declared.rows.PrimRow.{PrimRow}
-use Rattle.primary_ix.specs.Rows.{prim_reading}
-use Rattle.primary_ix.specs.Components.{AreShown, AreRoots}
+use Rattle.primary_ix.specs.Reading.{prim_reading}
+use Rattle.primary_ix.specs.Components.{AreShown}
+use Rattle.primary_ix.specs.Roots.{AreRoots}
 use Rattle.primary_ix.specs.Pages.{IsTestedIn}
 use Rattle.primary_ix.specs.Scans.{scan_pages}
 use Rattle.primary_ix.proofs.living.scan_all.Given as goal

@@ -1,7 +1,8 @@
 use Rattle.std.proofs.Common.{◌≡◌, ◌++◌, rules, sym, ◌∙◌, ap, subst}
 use Rattle.std.proofs.lemmas.Fn.{dedup_same}
 use Rattle.order_merge.specs.Ascending.{Ascends}
-use Rattle.primary_ix.specs.Rows.{prim_layout, prim_reading}
+use Rattle.primary_ix.specs.Rows.{prim_layout}
+use Rattle.primary_ix.specs.Reading.{prim_reading}
 use Rattle.primary_ix.specs.Scans.{all_keys}
 use Rattle.btree_image.specs.Given.{rows_met}
 use Rattle.primary_ix.proofs.Whole.{all_keys-ranges, all_met, behind, kept-ascends, kept-stays}

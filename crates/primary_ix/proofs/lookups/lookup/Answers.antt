@@ -1,6 +1,8 @@
 use Rattle.std.proofs.Common.{All, sym, ◌∙◌, ap, subst}
-use Rattle.primary_ix.specs.Components.{AreShown, AreRoots}
-use Rattle.primary_ix.specs.Pages.{IsDamagedIn, IsTestedIn}
+use Rattle.primary_ix.specs.Components.{AreShown}
+use Rattle.primary_ix.specs.Roots.{AreRoots}
+use Rattle.primary_ix.specs.Pages.{IsTestedIn}
+use Rattle.primary_ix.specs.Damage.{IsDamagedIn}
 use Rattle.primary_ix.specs.Lookups.{lookup_pages}
 use Rattle.primary_ix.proofs.Joined.{went-ok_as}
 use Rattle.primary_ix.proofs.Memory.{record-memory, record-disk, record-table, view-disk}

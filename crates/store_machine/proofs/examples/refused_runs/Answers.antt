@@ -8,7 +8,7 @@ use Rattle.order_merge.specs.Adding.{with_entry}
 use Rattle.order_merge.specs.Entries.{entry_at, newest_at}
 use Rattle.btree_image.specs.Descent.{descent}
 use Rattle.btree_image.specs.Image.{shape_of}
-use Rattle.primary_ix.specs.Components.{AreRoots}
+use Rattle.primary_ix.specs.Roots.{AreRoots}
 use Rattle.primary_ix.specs.Lookups.{lookup_pages}
 use Rattle.primary_ix.specs.Rows.{prim_layout}
 use Rattle.primary_ix.specs.declared.component.PrimComp.{PrimComp}

@@ -13,7 +13,7 @@ use Rattle.device_pages.specs.Laws.Lending.{contents-readable, contents-told}
 use Rattle.btree_image.specs.Damage.{IsDamaged, IsLeafPage, IsTreePage}
 use Rattle.btree_image.specs.Image.{shape_of}
 use Rattle.btree_image.specs.Pages.{page_number}
-use Rattle.primary_ix.specs.Pages.{IsDamagedIn}
+use Rattle.primary_ix.specs.Damage.{IsDamagedIn}
 use Rattle.primary_ix.specs.Rows.{prim_layout}
 use Rattle.primary_ix.specs.declared.component.PrimComp.{PrimComp}
 use Rattle.store_state.specs.Lists.{extents_of, trees_of}

@@ -8,10 +8,10 @@ use Rattle.order_merge.specs.Adding.{with_entry}
 use Rattle.order_merge.specs.Entries.{entry_at, newest_at}
 use Rattle.tree_shape.specs.Shape.{IsRoot, level_size, level_start}
 use Rattle.btree_image.specs.Descent.{descent}
-use Rattle.primary_ix.specs.Components.{AreRoots}
+use Rattle.primary_ix.specs.Roots.{AreRoots}
 use Rattle.primary_ix.specs.Lookups.{lookup_pages}
 use Rattle.primary_ix.specs.declared.component.PrimComp.{PrimComp}
-use Rattle.wal_log.specs.Headers.{header_bytes}
+use Rattle.wal_log.specs.State.{header_bytes}
 use Rattle.comp_dir.specs.Parts.{HasPages}
 use Rattle.comp_dir.specs.Slots.{slot_bytes}
 use Rattle.btree_image.specs.Image.{shape_of}
