@@ -9,7 +9,8 @@ use Rattle.dev_model.specs.Answers.{Tells, IsReadFrom}
 use Rattle.dev_model.specs.Laws.Ranges.{part-read}
 use Rattle.device_pages.specs.declared.lending.TheConstants.{PAGE_BYTES}
 use Rattle.device_pages.specs.Asked.{Seen, Asked}
-use Rattle.device_pages.specs.Lending.{is_lent, page_bytes, contents_of}
+use Rattle.device_pages.specs.Lending.{page_bytes, contents_of}
+use Rattle.device_pages.specs.Lent.{is_lent}
 use Rattle.device_pages.specs.LentPlaces.{IsLentPlace}
 use Rattle.device_pages.specs.Laws.Lending.{contents-told}
 

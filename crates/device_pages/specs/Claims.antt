@@ -9,7 +9,8 @@ use Rattle.dev_model.specs.DeviceCalls.{ok_calls}
 use Rattle.device_pages.specs.declared.lending.TheConstants.{PAGE_BYTES}
 use Rattle.device_pages.specs.Asked.{Seen, Asked, pages_of}
 use Rattle.device_pages.specs.ReadsMade.{reads_made}
-use Rattle.device_pages.specs.Lending.{is_lent, page_bytes, contents_of}
+use Rattle.device_pages.specs.Lending.{page_bytes, contents_of}
+use Rattle.device_pages.specs.Lent.{is_lent}
 use Rattle.device_pages.specs.LentPlaces.{IsLentPlace}
 
 -- a device that tells made these reads and no other call that succeeded

@@ -1,13 +1,9 @@
--- Which pages of a device are lent, and what is on them.
+-- What is on lent pages of a device.
 use Rattle.std.specs.Prelude.{ℕ, zero, suc, ◌+◌, ◌*◌, Bool, true, ◌&&◌, ◌||◌, not, nat_le, nat_lt, if◌then◌else◌, List, [], ◌∷◌, length, Option, Some, None}
-use Rattle.std.specs.List.{list_any, list_all}
+use Rattle.std.specs.List.{list_all}
 use Rattle.space_map.specs.declared.space.Extent.{Extent}
-use Rattle.space_map.specs.Space.{is_in}
 use Rattle.dev_model.specs.Story.{Write, FailedWrite, Past, Story, bytes_of, part}
 use Rattle.device_pages.specs.declared.lending.TheConstants.{PAGE_BYTES}
-
-abbrev pub is_lent : List Extent → ℕ → Bool
-is_lent extents page = list_any (is_in page) extents
 
 abbrev pub is_inside : (at count i : ℕ) → Bool
 is_inside at count i = nat_le at i && nat_lt i (at + count)

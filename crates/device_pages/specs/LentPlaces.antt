@@ -2,7 +2,7 @@
 use Rattle.std.specs.Prelude.{ℕ, ◌+◌, ◌*◌, ◌<◌, ◌≤◌, IsTrue, List}
 use Rattle.space_map.specs.declared.space.Extent.{Extent}
 use Rattle.device_pages.specs.declared.lending.TheConstants.{PAGE_BYTES}
-use Rattle.device_pages.specs.Lending.{is_lent}
+use Rattle.device_pages.specs.Lent.{is_lent}
 
 -- a place of a lent page
 pub record IsLentPlace (extents : List Extent) (i : ℕ) : Type 0 where

@@ -1,7 +1,8 @@
 // A device's pages, lent for as long as the device is borrowed.
 ghost use Rattle.std.specs.Prelude.{◌≡◌, ◌+◌, ◌*◌, ◌<◌, ◌≤◌, ◌^◌, ℕ, IsTrue, All};
 ghost use Rattle.space_map.specs.Space.{end_of};
-ghost use Rattle.device_pages.specs.Lending.{is_lent, contents_of};
+ghost use Rattle.device_pages.specs.Lending.{contents_of};
+ghost use Rattle.device_pages.specs.Lent.{is_lent};
 ghost use Rattle.device_pages.specs.Asked.{Asked, seen};
 
 use dev_model::{Device, Failed, Pages};

@@ -10,7 +10,7 @@ use Rattle.wal_log.specs.declared.places.TheConstants.{LOG_BYTES}
 use Rattle.image_model.specs.declared.places.TheConstants.{LOG_START}
 use Rattle.comp_dir.specs.Directory.{Numbered}
 use Rattle.comp_dir.specs.declared.places.TheConstants.{FIRST_DATA_PAGE}
-use Rattle.device_pages.specs.Lending.{is_lent}
+use Rattle.device_pages.specs.Lent.{is_lent}
 use Rattle.device_pages.specs.LentPlaces.{IsLentPlace}
 use Rattle.primary_ix.specs.declared.rows.PrimRow.{PrimRow}
 use Rattle.store_state.specs.Lists.{Lists, extent_of, extents_of}

@@ -28,7 +28,8 @@ use Rattle.comp_dir.specs.declared.slots.Slot.{Slot}
 use Rattle.page_codec.specs.declared.pages.TheConstants.{PAGE_BYTES}
 use Rattle.space_map.specs.Space.{is_in}
 use Rattle.btree_image.specs.Shown.{IsShown}
-use Rattle.device_pages.specs.Lending.{is_lent, page_bytes, contents_of}
+use Rattle.device_pages.specs.Lending.{page_bytes, contents_of}
+use Rattle.device_pages.specs.Lent.{is_lent}
 use Rattle.device_pages.specs.LentPlaces.{IsLentPlace}
 use Rattle.device_pages.specs.Laws.Lending.{contents-readable}
 use Rattle.primary_ix.specs.Rows.{prim_layout}

@@ -11,7 +11,7 @@ use Rattle.page_codec.specs.declared.faults.PageFault.{PageFault}
 use Rattle.page_codec.specs.declared.faults.PageFault.TheVariants.{Failed, Damaged, OutOfMemory}
 use Rattle.tree_shape.specs.Asked.{Went, reads_of, given_but_last}
 use Rattle.device_pages.specs.Asked.{Seen, Asked, seen, calls_of, pages_of}
-use Rattle.device_pages.specs.Lending.{is_lent}
+use Rattle.device_pages.specs.Lent.{is_lent}
 use Rattle.device_pages.specs.Laws.Asked.{asked-none, story-asked, ok_calls-asked, pages_of-given, ReadsWithin-asked}
 use Rattle.store_state.specs.Lists.{Lists, extents_of}
 use Rattle.store_state.specs.EveryList.{IsLists}

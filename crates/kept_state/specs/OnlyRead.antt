@@ -7,7 +7,7 @@ use Rattle.wal_log.specs.declared.log.Log.{Log}
 use Rattle.tree_shape.specs.Asked.{Went, reads_of}
 use Rattle.device_pages.specs.Asked.{Seen, Asked}
 use Rattle.device_pages.specs.Claims.{MadeReads}
-use Rattle.device_pages.specs.Lending.{is_lent}
+use Rattle.device_pages.specs.Lent.{is_lent}
 use Rattle.page_codec.specs.declared.faults.PageFault.{PageFault}
 use Rattle.page_codec.specs.declared.pages.TheConstants.{PAGE_BYTES}
 use Rattle.primary_ix.specs.declared.rows.PrimRow.{PrimRow}

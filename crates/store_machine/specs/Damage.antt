@@ -1,9 +1,10 @@
 -- What an answer that a page is damaged has for its cause.
-use Rattle.std.specs.Prelude.{◌≡◌, ℕ, List, [], ◌∷◌, Option, Some, None, Err}
-use Rattle.dev_model.specs.Story.{Calls, Story, WhereTold, after, clock_of}
-use Rattle.device_pages.specs.Lending.{contents_of}
+use Rattle.std.specs.Prelude.{◌≡◌, ℕ, List, [], ◌∷◌, map, Option, Some, None, Err}
+use Rattle.dev_model.specs.Story.{Calls, Story, WhereTold, IsReadable, after, bytes_of, clock_of}
+use Rattle.component_image.specs.Components.{IsInExtents}
+use Rattle.component_image.specs.Content.{page_at}
 use Rattle.primary_ix.specs.Damage.{IsDamagedIn}
-use Rattle.store_state.specs.Lists.{extents_of, trees_of}
+use Rattle.store_state.specs.Lists.{trees_of}
 use Rattle.store_machine.specs.Machine.{Machine, after_event}
 use Rattle.store_machine.specs.declared.events.Refusal.TheVariants.{Damaged}
 use Rattle.store_machine.specs.declared.events.Action.{Action}
@@ -18,13 +19,13 @@ damaged_page (Region kind rect (Err (Damaged page))) = Some page
 damaged_page other = None
 
 -- The page was damaged at a clock that the story has passed: by the bytes as they were read then, it isn't a page for its place in the
--- components of the machine. So it is where all pages of these could be read then.
+-- components of the machine. So it is where each place of their pages could be read then.
 pub record WasDamaged (m : Machine) (s : Story) (at page : ℕ) : Type 0 where
   pub earlier : Story
   pub since : Calls
   pub went : s ≡ after earlier since
   pub clock : clock_of earlier ≡ at
-  pub damaged : WhereTold (contents_of (extents_of m.lists.components) (Some earlier)) (λ contents. IsDamagedIn (trees_of m.lists.components) contents page)
+  pub damaged : ((i : ℕ) → IsInExtents (map (λ e. e.1) m.lists.components) i → IsReadable earlier.past i) → IsDamagedIn (trees_of m.lists.components) (page_at (bytes_of earlier)) page
 
 -- in this story each page that an event answered to be damaged was so at the end of the event, in the components that were there before
 abbrev pub DamagesAre : Machine → Story → List Event → Type 0

@@ -7,7 +7,7 @@ use Rattle.dev_model.specs.declared.calls.DeviceAct.TheVariants.{WriteAt, SyncAl
 use Rattle.page_codec.specs.declared.pages.TheConstants.{PAGE_BYTES}
 use Rattle.tree_shape.specs.Given.{given}
 use Rattle.device_pages.specs.ReadsMade.{reads_made}
-use Rattle.device_pages.specs.Lending.{is_lent}
+use Rattle.device_pages.specs.Lent.{is_lent}
 use Rattle.wal_log.specs.Places.{record_start}
 use Rattle.wal_log.specs.Records.{key_of}
 use Rattle.wal_log.specs.State.{newest, turn_calls}

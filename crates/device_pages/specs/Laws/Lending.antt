@@ -11,7 +11,8 @@ use Rattle.dev_model.specs.Laws.Images.{IsReadable-settled}
 use Rattle.dev_model.specs.Laws.Frame.{bytes_of-spared}
 use Rattle.dev_model.specs.Laws.Ranges.{part-same}
 use Rattle.device_pages.specs.declared.lending.TheConstants.{PAGE_BYTES}
-use Rattle.device_pages.specs.Lending.{is_lent, is_inside, is_readable, each_place, are_readable, page_bytes, contents_of}
+use Rattle.device_pages.specs.Lending.{is_inside, is_readable, each_place, are_readable, page_bytes, contents_of}
+use Rattle.device_pages.specs.Lent.{is_lent}
 use Rattle.device_pages.specs.LentPlaces.{IsLentPlace}
 
 -- a lent page lies below where all extents end

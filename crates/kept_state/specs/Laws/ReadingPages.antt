@@ -22,7 +22,7 @@ use Rattle.comp_dir.specs.Parts.{HasPages, main_tree, tree}
 use Rattle.comp_dir.specs.Rules.{IsDeclared}
 use Rattle.comp_dir.specs.declared.places.TheConstants.{MAIN_LEAVES, MAIN_INNERS, PRIMARY}
 use Rattle.page_codec.specs.declared.pages.TheConstants.{PAGE_BYTES}
-use Rattle.device_pages.specs.Lending.{is_lent}
+use Rattle.device_pages.specs.Lent.{is_lent}
 use Rattle.device_pages.specs.LentPlaces.{IsLentPlace}
 use Rattle.primary_ix.specs.Components.{AreShown}
 use Rattle.primary_ix.specs.Pages.{AreAllLent}

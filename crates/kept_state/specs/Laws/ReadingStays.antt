@@ -29,7 +29,8 @@ use Rattle.btree_image.specs.Shown.{IsShown}
 use Rattle.order_merge.specs.Fitting.{Fits}
 use Rattle.order_merge.specs.Views.{lists_of}
 use Rattle.order_merge.specs.laws.Living.{Fits-frozen}
-use Rattle.device_pages.specs.Lending.{is_lent, page_bytes, contents_of}
+use Rattle.device_pages.specs.Lending.{page_bytes, contents_of}
+use Rattle.device_pages.specs.Lent.{is_lent}
 use Rattle.device_pages.specs.LentPlaces.{IsLentPlace}
 use Rattle.device_pages.specs.Laws.Lending.{contents-readable, contents-settled, contents-told, contents-spared, page_bytes-spared}
 use Rattle.primary_ix.specs.Components.{AreShown}

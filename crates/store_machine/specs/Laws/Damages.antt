@@ -1,11 +1,15 @@
 -- How the story of a device goes on, and that what was damaged in it stays so. No public contract needs these laws.
-use Rattle.std.proofs.Common.{◌≡◌, ℕ, List, [], ◌∷◌, ◌++◌, Option, Some, None, Ok, Err, refl, sym, ◌∙◌, ap, subst}
+use Rattle.std.proofs.Common.{◌≡◌, ℕ, List, [], ◌∷◌, ◌++◌, map, Option, Some, None, Ok, Err, refl, sym, ◌∙◌, ap, subst}
 use Rattle.std.proofs.lemmas.Option.{same_Some}
-use Rattle.dev_model.specs.Story.{Calls, Story, WhereTold, after, clock_of}
+use Rattle.dev_model.specs.Story.{Calls, Story, WhereTold, IsReadable, after, clock_of}
 use Rattle.dev_model.specs.Doing.{HasStoppedIn, all_noted}
 use Rattle.dev_model.specs.Laws.Plans.{all_noted-told, Did-untold, no_story}
 use Rattle.dev_model.specs.Laws.Runs.{after-append}
-use Rattle.device_pages.specs.Lending.{contents_of}
+use Rattle.device_pages.specs.Lending.{contents_of, page_bytes}
+use Rattle.device_pages.specs.LentPlaces.{IsLentPlace}
+use Rattle.device_pages.specs.Laws.Lending.{contents-readable}
+use Rattle.component_image.specs.Components.{IsInExtents}
+use Rattle.kept_state.specs.Laws.ReadingPages.{lent-inside}
 use Rattle.primary_ix.specs.Damage.{IsDamagedIn}
 use Rattle.store_state.specs.Lists.{Lists, extents_of, trees_of}
 use Rattle.store_machine.specs.Damage.{damaged_page, WasDamaged, DamagesAre}
@@ -84,13 +88,14 @@ pub cause-was : (old : StoreState) (now : DeviceState) (owner : ℕ) (action : A
     → WhereTold (damaged_page action) (IsCause old.lists now) → WhereTold now.story (λ s. WhereTold (damaged_page e.action) (WasDamaged m s e.clock_after))
 cause-was old now owner action e m is has causes s told page answered =
     let cause : IsCause old.lists now page = causes page (sym (ap damaged_page is.action_is) ∙ answered) in
+    let in_old : ((i : ℕ) → IsLentPlace (extents_of old.lists.components) i → IsReadable s.past i) → IsDamagedIn (trees_of old.lists.components) (page_bytes s) page =
+    λ readable. cause.damaged (page_bytes s) (ap (contents_of (extents_of old.lists.components)) told ∙ contents-readable (extents_of old.lists.components) s readable) in
     record {
       earlier = s;
       since = [];
       went = refl;
       clock = sym (is.time ∙ cause.clock s told);
-      damaged = subst (λ (l : Lists). WhereTold (contents_of (extents_of l.components) (Some s)) (λ contents. IsDamagedIn (trees_of l.components) contents page)) has.lists
-          (subst (λ (story : Option Story). WhereTold (contents_of (extents_of old.lists.components) story) (λ contents. IsDamagedIn (trees_of old.lists.components) contents page)) told cause.damaged);
+      damaged = subst (λ (l : Lists). ((i : ℕ) → IsInExtents (map (λ e. e.1) l.components) i → IsReadable s.past i) → IsDamagedIn (trees_of l.components) (page_bytes s) page) has.lists (λ readable. in_old (λ i place. readable i (lent-inside old.lists.components i place)));
     }
 
 -- no page was answered to be damaged

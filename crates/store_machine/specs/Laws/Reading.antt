@@ -17,7 +17,8 @@ use Rattle.device_pages.specs.Asked.{Asked, Seen, calls_of}
 use Rattle.device_pages.specs.ReadsMade.{reads_made}
 use Rattle.device_pages.specs.Claims.{MadeReads}
 use Rattle.device_pages.specs.Laws.Asked.{clock-given, contents-asked}
-use Rattle.device_pages.specs.Lending.{contents_of, is_lent}
+use Rattle.device_pages.specs.Lending.{contents_of}
+use Rattle.device_pages.specs.Lent.{is_lent}
 use Rattle.primary_ix.specs.Damage.{IsDamagedIn}
 use Rattle.primary_ix.specs.Components.{AreShown}
 use Rattle.primary_ix.specs.Roots.{AreRoots}

@@ -1,22 +1,22 @@
-use Rattle.std.proofs.Common.{◌≡◌, ◌⊎◌, inl, inr, ℕ, zero, suc, ◌+◌, ◌*◌, ◌<◌, ◌≤◌, List, [], ◌∷◌, length, Some, refl, sym, ◌∙◌, ap, subst, arith}
+use Rattle.std.proofs.Common.{◌≡◌, ◌⊎◌, inl, inr, ℕ, zero, suc, ◌+◌, ◌*◌, ◌<◌, ◌≤◌, List, [], ◌∷◌, length, map, Some, refl, sym, ◌∙◌, ap, subst, arith}
 use Rattle.std.proofs.lemmas.Option.{same_Some}
 use Rattle.std.specs.Prelude.{drop, slice_index, slice_index_or}
-use Rattle.dev_model.specs.Story.{Calls, Story, WhereTold, after, bytes_of, clock_of}
+use Rattle.dev_model.specs.Story.{Calls, Story, IsReadable, after, bytes_of, clock_of}
 use Rattle.dev_model.specs.Laws.CallLists.{clock_of-after}
 use Rattle.dev_model.specs.Laws.Ranges.{get_or-part, patched-outside}
 use Rattle.page_codec.specs.Page.{most_rows, row_count, row_width, rows_in, rows_on}
 use Rattle.page_codec.specs.declared.kinds.TheConstants.{PRIMARY_LEAF}
 use Rattle.page_codec.specs.declared.pages.TheConstants.{HEADER_BYTES, PAGE_BYTES}
 use Rattle.tree_shape.specs.Shape.{IsPlace, level_size, level_start}
-use Rattle.device_pages.specs.Lending.{contents_of, page_bytes}
-use Rattle.device_pages.specs.Laws.Lending.{contents-readable, contents-told}
+use Rattle.device_pages.specs.Lending.{page_bytes}
+use Rattle.component_image.specs.Components.{IsInExtents}
 use Rattle.btree_image.specs.Damage.{IsDamaged, IsLeafPage, IsTreePage}
 use Rattle.btree_image.specs.Image.{shape_of}
 use Rattle.btree_image.specs.Pages.{page_number}
 use Rattle.primary_ix.specs.Damage.{IsDamagedIn}
 use Rattle.primary_ix.specs.Rows.{prim_layout}
 use Rattle.primary_ix.specs.declared.component.PrimComp.{PrimComp}
-use Rattle.store_state.specs.Lists.{extents_of, trees_of}
+use Rattle.store_state.specs.Lists.{trees_of}
 use Rattle.store_machine.specs.Damage.{WasDamaged}
 use Rattle.store_machine.specs.Examples.{one_leaf, two_at_first}
 use Rattle.store_machine.specs.Machine.{Machine, at_opening}
@@ -76,6 +76,10 @@ damaged_page page any = by_index any.0 any.1 any.2 any.3 any.4
     by_index (suc zero) comp lt same damaged = let d : _ = damaged_tree 265 page comp same damaged in (inr d.0, d.1)
     by_index (suc (suc k)) comp lt same damaged = absurd (omega (arith, lt))
 
+-- each place of the components' pages can be read
+abbrev IsReadableAll : Story → Type 0
+IsReadableAll s = (i : ℕ) → IsInExtents (map (λ e. e.1) two_at_first.lists.components) i → IsReadable s.past i
+
 -- the story had come to its last call
 at_the_end : (page : ℕ) → WasDamaged opened one_leaf 2 page → IsDamagedIn trees (page_bytes one_leaf) page
 at_the_end page was =
@@ -83,10 +87,9 @@ at_the_end page was =
     by_calls was.earlier was.since was.went calls was.damaged
   where
     by_calls : (earlier : Story) (since : Calls) → one_leaf ≡ after earlier since → length since ≡ 0
-        → WhereTold (contents_of (extents_of two_at_first.lists.components) (Some earlier)) (λ contents. IsDamagedIn trees contents page) → IsDamagedIn trees (page_bytes one_leaf) page
+        → (IsReadableAll earlier → IsDamagedIn trees (page_bytes earlier) page) → IsDamagedIn trees (page_bytes one_leaf) page
     by_calls earlier [] went none damaged =
-        subst (λ (s : Story). WhereTold (contents_of (extents_of two_at_first.lists.components) (Some s)) (λ contents. IsDamagedIn trees contents page)) (sym went) damaged
-        (page_bytes one_leaf) (contents-readable (extents_of two_at_first.lists.components) one_leaf (λ i place. tt))
+        subst (λ (s : Story). IsReadableAll s → IsDamagedIn trees (page_bytes s) page) (sym went) damaged (λ i place. tt)
     by_calls earlier (call ∷ since) went none damaged = absurd (omega (arith, none))
 
 damaged_265 : IsDamagedIn trees (page_bytes one_leaf) 265
@@ -105,7 +108,7 @@ was_265 = record {
   since = [];
   went = refl;
   clock = refl;
-  damaged = λ contents told. subst (λ (held : ℕ → List ℕ). IsDamagedIn trees held 265) (contents-told (extents_of two_at_first.lists.components) one_leaf contents told).1 damaged_265;
+  damaged = λ readable. damaged_265;
 }
 
 pub returns-clause-none_for_its_place : goal.returns-clause-none_for_its_place

@@ -3,7 +3,7 @@ use Rattle.std.proofs.lemmas.List.Elements.{All-nil, All-cons}
 use Rattle.dev_model.specs.DeviceCalls.{made_at}
 use Rattle.dev_model.specs.declared.calls.DeviceCall.{DeviceCall}
 use Rattle.dev_model.specs.declared.calls.DeviceAct.TheVariants.{WriteAt, SyncAll}
-use Rattle.device_pages.specs.Lending.{is_lent}
+use Rattle.device_pages.specs.Lent.{is_lent}
 use Rattle.order_merge.specs.Adding.{with_entry}
 use Rattle.order_merge.specs.Entries.{entry_at, newest_at}
 use Rattle.tree_shape.specs.Shape.{IsRoot, level_size, level_start}
