@@ -1,6 +1,7 @@
 pub mod Answers
 pub mod Commands
 pub mod Examples
+pub mod Order
 pub mod Phases
 pub mod Record
 pub mod Refusals

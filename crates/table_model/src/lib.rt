@@ -6,9 +6,11 @@
 ghost use Rattle.std.specs.Prelude.{◌≡◌, ◌++◌, List, [], ◌∷◌, map};
 ghost use Rattle.std.specs.FinMap.{empty};
 ghost use Rattle.table_model.specs.Table.{Table};
-ghost use Rattle.table_model.specs.Commands.{TableCommand, on_table, flush, write, put, del, get, count, answered, quiet, refused, counted};
+ghost use Rattle.table_model.specs.Commands.{TableCommand, Command, on_table, flush, write, put, del, get, count, answered, quiet, refused, counted};
 ghost use Rattle.table_model.specs.Answers.{replay, replies};
-ghost use Rattle.table_model.specs.Record.{record_text, history, FitsScript, IsAnswered};
+ghost use Rattle.table_model.specs.Record.{RunRecord, record_text, history, FitsScript, IsAnswered};
+ghost use Rattle.table_model.specs.Order.{IsInOrder};
+ghost use Rattle.table_model.specs.Phases.{Phases};
 ghost use Rattle.table_model.specs.declared.Why.TheVariants.{NoIndex, Damaged, Memory};
 ghost use Rattle.table_model.specs.Examples.{shuffled_script, shuffled_record, shuffled_text, refused_script, refused_record, refused_run_text, flushed_script, flushed_record, flushed_text, alone, one, false_get, false_del, false_count, two_counts, two_counts_at_once};
 
@@ -33,6 +35,11 @@ pub enum Why {
 pub fn a_history_may_be_cut()
     ensures tables { (t : Table) (cs ds : List TableCommand) → replay t (cs ++ ds) ≡ replay (replay t cs) ds }
     ensures replies { (t : Table) (cs ds : List TableCommand) → replies t (cs ++ ds) ≡ replies t cs ++ replies (replay t cs) ds }
+{}
+
+/// A law: the answers of a record that fits its script are in order, phase by phase and lane by lane.
+pub fn a_record_that_fits_is_in_order()
+    ensures { (s : Phases Command) (r : RunRecord) → FitsScript s r → IsInOrder r }
 {}
 
 /// Worked examples: a shuffle of two lanes, a run with a refused command and one with flushes fit their scripts, are
