@@ -22,9 +22,7 @@ write_reply t (del key) = del_reply (map.get t key)
 
 abbrev pub table_after : Table → TableCommand → Table
 table_after t (write w) = after_write t w
-table_after t (get key) = t
-table_after t count = t
-table_after t (region kind r) = t
+table_after t other = t
 
 -- the reply doesn't depend on the index by which a region is asked for
 abbrev pub reply_to : Table → TableCommand → Reply

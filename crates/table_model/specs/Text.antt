@@ -1,5 +1,6 @@
 -- The printed lines.
 use Rattle.std.specs.Prelude.{ℕ, List, [], ◌∷◌, ◌++◌, length, Option, Some, None, codes, decimal}
+use Rattle.std.specs.List.{flat_map}
 use Rattle.geo_base.specs.declared.points.Point.{Point}
 use Rattle.geo_base.specs.declared.points.Row.{Row}
 use Rattle.table_model.specs.declared.Why.{Why}
@@ -21,8 +22,7 @@ abbrev pub row_text : Row → List ℕ
 row_text row = codes "= " ++ decimal row.key ++ codes " " ++ place_text row.point row.note ++ codes "\n"
 
 abbrev pub rows_text : List Row → List ℕ
-rows_text [] = []
-rows_text (row ∷ rs) = row_text row ++ rows_text rs
+rows_text rs = flat_map row_text rs
 
 abbrev pub write_text : WriteReply → List ℕ
 write_text put_new = codes "put new\n"
@@ -43,10 +43,8 @@ first_line (rows rs) = codes "region " ++ decimal (length rs) ++ codes "\n"
 
 -- the lines that follow it
 abbrev pub more_lines : Reply → List ℕ
-more_lines (wrote w) = []
-more_lines (got found) = []
-more_lines (counted n) = []
 more_lines (rows rs) = rows_text rs
+more_lines other = []
 
 -- PLACE LANE and a space
 abbrev pub front_text : ℕ → ℕ → List ℕ
