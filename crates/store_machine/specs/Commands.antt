@@ -1,6 +1,7 @@
 -- Which commands events are, and what became of them. A command is carried out by events one after another: its own one, which
 -- the table answers, and upkeep.
 use Rattle.std.specs.Prelude.{◌≡◌, ◌⊎◌, ℕ, ◌≤◌, Bool, true, false, if◌then◌else◌, List, [], ◌∷◌, ◌++◌, Contains, Option, Some, None, Result, Ok, Err}
+use Rattle.std.specs.List.{flat_map}
 use Rattle.std.specs.Option.{option_map, option_to_list}
 use Rattle.geo_base.specs.declared.points.Point.{Point}
 use Rattle.table_model.specs.Table.{place_of}
@@ -66,8 +67,7 @@ words_of None = []
 words_of (Some refusal) = option_to_list (word_of refusal)
 
 abbrev pub words : List Event → List Why
-words [] = []
-words (e ∷ es) = words_of (refusal_of e.action) ++ words es
+words es = flat_map (λ e. words_of (refusal_of e.action)) es
 
 -- an event was refused with this word
 pub record IsRefusedWith (word : Why) (a : Action) : Type 0 where
@@ -118,8 +118,7 @@ look_in (action.Look look) = look ∷ []
 look_in other = []
 
 abbrev pub looks : List Event → List Look
-looks [] = []
-looks (e ∷ es) = look_in e.action ++ looks es
+looks es = flat_map (λ e. look_in e.action) es
 
 -- Upkeep alone, in which the writes that were made before are placed: what the store told first about itself was the number of the last
 -- write, and then or later it told that all indexes have the writes up to that one on disk.
@@ -163,9 +162,8 @@ Does flush (refused word) es = IsRefusedFlush word es
 -- the events are these commands, one after another, and this became of them
 abbrev pub DoesAll : List Command → List Outcome → List Event → Type 0
 DoesAll [] [] es = es ≡ []
-DoesAll [] (o ∷ os) es = ⊥
-DoesAll (c ∷ cs) [] es = ⊥
 DoesAll (c ∷ cs) (o ∷ os) es = (its : List Event) × (rest : List Event) × (es ≡ its ++ rest) × Does c o its × DoesAll cs os rest
+DoesAll cs os es = ⊥
 
 -- the group that was being logged when a write or a sync of the device failed, if one was
 abbrev pub stopped_group : Option Group → List Event → Option Group

@@ -21,6 +21,5 @@ logged_by c o = []
 
 -- what was logged by the answered writes of these commands, in order
 abbrev pub logged_groups : List Command → List Outcome → List Group
-logged_groups [] os = []
-logged_groups (c ∷ cs) [] = []
 logged_groups (c ∷ cs) (o ∷ os) = logged_by c o ++ logged_groups cs os
+logged_groups cs os = []

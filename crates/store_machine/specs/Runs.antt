@@ -128,22 +128,15 @@ abbrev pub MakesCalls : Machine → Action → (write_failed : Bool) → List De
 MakesCalls m (Write op (Ok wrote)) write_failed calls = MakesWrite (is_logged op wrote) m (key_of op) calls
 MakesCalls m (Write op (Err Fault)) write_failed calls = FailsWrite write_failed m (key_of op) calls
 MakesCalls m (Write op (Err (Damaged page))) write_failed calls = AreReads m (way_to (key_of op)) (IsFrontUpTo page) calls
-MakesCalls m (Write op (Err refusal)) write_failed calls = calls ≡ []
 MakesCalls m (Get key answer) write_failed calls = AreReads m (way_to key) (IsPartOf answer) calls
-MakesCalls m (Count seq rows) write_failed calls = calls ≡ []
-MakesCalls m (Look look) write_failed calls = calls ≡ []
 MakesCalls m (Region kind rect (Err NoIndex)) write_failed calls = calls ≡ []
 MakesCalls m (Region kind rect answer) write_failed calls = AreReads m way_to_all (IsPartOf answer) calls
 MakesCalls m (Freeze least (Ok true)) write_failed calls = calls ≡ ok_calls m.clock (turn_calls m.log)
-MakesCalls m (Freeze least (Ok false)) write_failed calls = calls ≡ []
 MakesCalls m (Freeze least (Err Fault)) write_failed calls = IsFront (ok_calls m.clock (turn_calls m.log)) calls
-MakesCalls m (Freeze least (Err refusal)) write_failed calls = calls ≡ []
-MakesCalls m (Begin answer) write_failed calls = calls ≡ []
 MakesCalls m (JobWrite own (Ok done)) write_failed calls = calls ≡ page_write m.clock own.job
-MakesCalls m (JobWrite own (Err refusal)) write_failed calls = calls ≡ []
 MakesCalls m (Install own (Ok done)) write_failed calls = calls ≡ ok_calls m.clock (install_calls own.job.plan.slot (described own.job))
 MakesCalls m (Install own (Err Fault)) write_failed calls = IsFront (ok_calls m.clock (install_calls own.job.plan.slot (described own.job))) calls
-MakesCalls m (Install own (Err refusal)) write_failed calls = calls ≡ []
+MakesCalls m other write_failed calls = calls ≡ []
 
 -- The clock after an event: it counts each device call that succeeded, and where one failed it may count that one too.
 abbrev pub TakesTime : (fault : Bool) → (clock : ℕ) → List DeviceCall → (clock_after : ℕ) → Type 0
