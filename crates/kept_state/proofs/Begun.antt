@@ -12,17 +12,19 @@ use Rattle.kept_state.specs.Reading.{IsLegible}
 
 pub kept-begun : (pages : ℕ) (log : Log) (table : Table) (l : Lists) (s : Story) (row : JobRow) → IsKept pages log table l s → row.written ≡ 0 → IsKept pages log table (begun row l) s
 kept-begun pages log table l s row kept none = record {
-  rests = kept.rests;
-  components = kept.components;
-  slots = kept.slots;
-  frozen_writes = kept.frozen_writes;
-  active_writes = kept.active_writes;
-  writes = kept.writes;
-  frozen_is = kept.frozen_is;
-  active_is = kept.active_is;
-  active_count = kept.active_count;
-  rows_are = kept.rows_are;
-  cut_rows_are = kept.cut_rows_are;
+  held = record {
+    rests = kept.held.rests;
+    components = kept.held.components;
+    slots = kept.held.slots;
+    frozen_writes = kept.held.frozen_writes;
+    active_writes = kept.held.active_writes;
+    writes = kept.held.writes;
+    frozen_is = kept.held.frozen_is;
+    active_is = kept.held.active_is;
+    active_count = kept.held.active_count;
+    rows_are = kept.held.rows_are;
+    cut_rows_are = kept.held.cut_rows_are;
+  };
   under_way = record { pages = λ n lt. absurd (omega (arith, lt, none)); readable = λ page i lt on. absurd (omega (arith, lt, none)) };
 }
 

@@ -79,16 +79,16 @@ records_few log (n ∷ ns) sound is = omega (arith, numbered-end [] None n ns lo
 
 pub rows-few : (pages : ℕ) (log : Log) (table : Table) (l : Lists) (s : Story) → IsKept pages log table l s → IsLists l → IsCounted log → length (rows_of table) < 2 ^ 64 - 1
 rows-few pages log table l s kept lists counted =
-    let shown : ShowAll (bytes_of s) (map (λ e. e.1) l.components) kept.rests.recovers.lists =
-    subst (λ (slots : List Slot). ShowAll (bytes_of s) slots kept.rests.recovers.lists) kept.components kept.rests.recovers.shown in
+    let shown : ShowAll (bytes_of s) (map (λ e. e.1) l.components) kept.held.rests.recovers.lists =
+    subst (λ (slots : List Slot). ShowAll (bytes_of s) slots kept.held.rests.recovers.lists) kept.held.components kept.held.rests.recovers.shown in
     let primary : AllOf IsPrimary (map (λ e. e.1) l.components) =
-    subst (AllOf IsPrimary) kept.components (primaries pages 0 (directory_of (bytes_of s)) kept.rests.recovers.opens.directory) in
-    let few : All (λ (rows : List PrimRow). length rows < 3407873) kept.rests.recovers.lists × (length kept.rests.recovers.lists ≡ length l.components) =
-    lists_few l.space.pages (bytes_of s) lists.most l.components l.ignored kept.rests.recovers.lists primary lists.slots shown in
+    subst (AllOf IsPrimary) kept.held.components (primaries pages 0 (directory_of (bytes_of s)) kept.held.rests.recovers.opens.directory) in
+    let few : All (λ (rows : List PrimRow). length rows < 3407873) kept.held.rests.recovers.lists × (length kept.held.rests.recovers.lists ≡ length l.components) =
+    lists_few l.space.pages (bytes_of s) lists.most l.components l.ignored kept.held.rests.recovers.lists primary lists.slots shown in
     let records : List Record = later (end_of (primary_of (bytes_of s))) (records_of (segments_of LOG_START (bytes_of s))) in
-    let below : length (rows_of (replayed (table_of kept.rests.recovers.lists) records)) < 137438953472 + length records =
-    rows-below 3407873 16 137438953472 (omega arith) kept.rests.recovers.lists records few.0 (omega (arith, few.1, lists.few)) in
+    let below : length (rows_of (replayed (table_of kept.held.rests.recovers.lists) records)) < 137438953472 + length records =
+    rows-below 3407873 16 137438953472 (omega arith) kept.held.rests.recovers.lists records few.0 (omega (arith, few.1, lists.few)) in
     let logged : length records ≤ length (records_of (segments_of LOG_START (bytes_of s))) = later_few (end_of (primary_of (bytes_of s))) (records_of (segments_of LOG_START (bytes_of s))) in
-    let all : length (records_of (segments_of LOG_START (bytes_of s))) ≤ log.next_lsn = records_few log (in_order (segments_of LOG_START (bytes_of s))) kept.rests.log_of.sound kept.rests.log_of.newest_is in
-    let same : length (rows_of table) ≡ length (rows_of (replayed (table_of kept.rests.recovers.lists) records)) = ap (λ (t : Table). length (rows_of t)) kept.rests.recovers.table_is in
+    let all : length (records_of (segments_of LOG_START (bytes_of s))) ≤ log.next_lsn = records_few log (in_order (segments_of LOG_START (bytes_of s))) kept.held.rests.log_of.sound kept.held.rests.log_of.newest_is in
+    let same : length (rows_of table) ≡ length (rows_of (replayed (table_of kept.held.rests.recovers.lists) records)) = ap (λ (t : Table). length (rows_of t)) kept.held.rests.recovers.table_is in
     omega (arith, below, logged, all, same, counted.next_lsn)

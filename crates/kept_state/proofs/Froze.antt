@@ -39,18 +39,18 @@ module _ (pages : ℕ) (log next : Log) (table : Table) (l : Lists) (s t : Story
     (rests : Rests pages next table t) (records : next.records ≡ 0) (none : l.frozen ≡ None)
     (same : later (end_of (primary_of (bytes_of t))) (records_of (segments_of LOG_START (bytes_of t))) ≡ later (end_of (primary_of (bytes_of s))) (records_of (segments_of LOG_START (bytes_of s)))) where
   -- no write is frozen before
-  no_frozen : kept.frozen_writes ≡ []
-  no_frozen = subst (λ (frozen : Option (List PrimRow)). IsFrozenOf frozen kept.frozen_writes) none kept.frozen_is
+  no_frozen : kept.held.frozen_writes ≡ []
+  no_frozen = subst (λ (frozen : Option (List PrimRow)). IsFrozenOf frozen kept.held.frozen_writes) none kept.held.frozen_is
 
-  writes_now : later (placed_up_to l.components) (records_of (segments_of LOG_START (bytes_of t))) ≡ kept.active_writes
+  writes_now : later (placed_up_to l.components) (records_of (segments_of LOG_START (bytes_of t))) ≡ kept.held.active_writes
   writes_now =
       ap (λ (n : ℕ). later n (records_of (segments_of LOG_START (bytes_of t)))) (sym (end-stays pages log table l s t now kept within told))
       ∙ same
       ∙ ap (λ (n : ℕ). later n (records_of (segments_of LOG_START (bytes_of s)))) (end-is pages log table l s kept)
-      ∙ kept.writes
-      ∙ ap (λ (rs : List Record). rs ++ kept.active_writes) no_frozen
+      ∙ kept.held.writes
+      ∙ ap (λ (rs : List Record). rs ++ kept.held.active_writes) no_frozen
 
-  table_now : table ≡ replayed (table_of rests.recovers.lists) kept.active_writes
+  table_now : table ≡ replayed (table_of rests.recovers.lists) kept.held.active_writes
   table_now =
       rests.recovers.table_is
       ∙ ap (λ (n : ℕ). replayed (table_of rests.recovers.lists) (later n (records_of (segments_of LOG_START (bytes_of t))))) (end-stays pages log table l s t now kept within told)
@@ -58,16 +58,18 @@ module _ (pages : ℕ) (log next : Log) (table : Table) (l : Lists) (s t : Story
 
   pub kept-frozen : IsLists l → IsKept pages next table (frozen_at last l) t
   kept-frozen lists = record {
-    rests = rests;
-    components = components-stay pages log table l s t now kept within told;
-    slots = slots-stay pages log table l s t now kept within told;
-    frozen_writes = kept.active_writes;
-    active_writes = [];
-    writes = writes_now ∙ sym (append-nil kept.active_writes);
-    frozen_is = kept.active_is;
-    active_is = refl;
-    active_count = sym records;
-    rows_are = kept.rows_are;
-    cut_rows_are = kept.rows_are ∙ ap (λ (u : Table). length (rows_of u)) table_now;
+    held = record {
+      rests = rests;
+      components = components-stay pages log table l s t now kept within told;
+      slots = slots-stay pages log table l s t now kept within told;
+      frozen_writes = kept.held.active_writes;
+      active_writes = [];
+      writes = writes_now ∙ sym (append-nil kept.held.active_writes);
+      frozen_is = kept.held.active_is;
+      active_is = refl;
+      active_count = sym records;
+      rows_are = kept.held.rows_are;
+      cut_rows_are = kept.held.rows_are ∙ ap (λ (u : Table). length (rows_of u)) table_now;
+    };
     under_way = no_job l (frozen_at last l) t l.job none lists.planned;
   }

@@ -208,10 +208,10 @@ module _ (l : Lists) (lists : IsLists l) (owner : ℕ) (job : Job) (of : IsJobOf
     may-be : MayBeAdded pages 0 of.row.plan.slot (described (job_of l of.row)) (directory_of (bytes_of s))
     may-be = may-be-added pages log table l s of.row kept lists numbered of.is own-rules none-left sound back
 
-    pub may-stand-there : MayStand pages s n slot kept.frozen_writes kept.rests.recovers.lists
+    pub may-stand-there : MayStand pages s n slot kept.held.frozen_writes kept.held.rests.recovers.lists
     may-stand-there =
-        subst (λ (m : ℕ). MayStand pages s m slot kept.frozen_writes kept.rests.recovers.lists) (sym number)
-        (subst (λ (t : Slot). MayStand pages s of.row.plan.slot t kept.frozen_writes kept.rests.recovers.lists) (sym body)
+        subst (λ (m : ℕ). MayStand pages s m slot kept.held.frozen_writes kept.held.rests.recovers.lists) (sym number)
+        (subst (λ (t : Slot). MayStand pages s of.row.plan.slot t kept.held.frozen_writes kept.held.rests.recovers.lists) (sym body)
         (may-stand pages log table l s of.row kept lists numbered of.is own-rules none-left sound back))
 
     -- its gate is closed
@@ -237,7 +237,7 @@ module _ (l : Lists) (lists : IsLists l) (owner : ℕ) (job : Job) (of : IsJobOf
       same_directory = directory ∙ (λ j. with_slot (number j) (body j) (directory_of (bytes_of s)))
 
       components_are : primary_of (bytes_of t) ≡ described (job_of l of.row) ∷ map (λ e. e.1) l.components
-      components_are = placed ∙ (λ j. body j ∷ kept.components j)
+      components_are = placed ∙ (λ j. body j ∷ kept.held.components j)
 
       slots_are : (e : Numbered) → Contains (open_slots (directory_of (bytes_of t))) e ↔ Contains ((of.row.plan.slot, described (job_of l of.row)) ∷ open_of l) e
       slots_are e =
@@ -245,22 +245,24 @@ module _ (l : Lists) (lists : IsLists l) (owner : ℕ) (job : Job) (of : IsJobOf
           contains-more (of.row.plan.slot, described (job_of l of.row)) (open_slots (directory_of (bytes_of s))) (open_slots (directory_of (bytes_of t)))
           (subst (λ (d : Directory). HasOneMore (of.row.plan.slot, described (job_of l of.row)) (open_slots (directory_of (bytes_of s))) (open_slots d)) (sym same_directory)
           (open-added pages 0 of.row.plan.slot (described (job_of l of.row)) (directory_of (bytes_of s)) may-be)) e in (
-            λ h. head-or (of.row.plan.slot, described (job_of l of.row)) (open_slots (directory_of (bytes_of s))) (open_of l) e (λ there. (kept.slots e).0 there) (more.0 h),
-            λ h. more.1 (head-or (of.row.plan.slot, described (job_of l of.row)) (open_of l) (open_slots (directory_of (bytes_of s))) e (λ there. (kept.slots e).1 there) h),
+            λ h. head-or (of.row.plan.slot, described (job_of l of.row)) (open_slots (directory_of (bytes_of s))) (open_of l) e (λ there. (kept.held.slots e).0 there) (more.0 h),
+            λ h. more.1 (head-or (of.row.plan.slot, described (job_of l of.row)) (open_of l) (open_slots (directory_of (bytes_of s))) e (λ there. (kept.held.slots e).1 there) h),
           )
 
       pub kept-installed : IsKept pages log table (installed of.row l) t
       kept-installed = record {
-        rests = rests;
-        components = components_are;
-        slots = slots_are;
-        frozen_writes = [];
-        active_writes = kept.active_writes;
-        writes = ap (λ (segments : Segments). later l.cut (records_of segments)) same_segments ∙ active-later pages log table l s of.row kept lists numbered of.is own-rules none-left sound back;
-        frozen_is = refl;
-        active_is = kept.active_is;
-        active_count = kept.active_count;
-        rows_are = kept.rows_are;
-        cut_rows_are = newest-counts (described (job_of l of.row)) (primary_of (bytes_of t)) (map (λ e. e.1) l.components) rests.recovers.lists components_are rests.recovers.counted;
+        held = record {
+          rests = rests;
+          components = components_are;
+          slots = slots_are;
+          frozen_writes = [];
+          active_writes = kept.held.active_writes;
+          writes = ap (λ (segments : Segments). later l.cut (records_of segments)) same_segments ∙ active-later pages log table l s of.row kept lists numbered of.is own-rules none-left sound back;
+          frozen_is = refl;
+          active_is = kept.held.active_is;
+          active_count = kept.held.active_count;
+          rows_are = kept.held.rows_are;
+          cut_rows_are = newest-counts (described (job_of l of.row)) (primary_of (bytes_of t)) (map (λ e. e.1) l.components) rests.recovers.lists components_are rests.recovers.counted;
+        };
         under_way = tt;
       }

@@ -47,26 +47,28 @@ comes-behind pages log table l s kept numbered lists = omega (arith, numbered.ne
 module _ (pages : ℕ) (log next : Log) (table : Table) (l : Lists) (s t : Story) (now : Option Story) (r : Record) (kept : IsKept pages log table l s) (within : WritesWithin LOG_START LOG_BYTES s now) (told : now ≡ Some t)
     (rests : Rests pages next (after_write table (write_of r.op)) t) (records : next.records ≡ log.records + 1)
     (logged : later (end_of (primary_of (bytes_of t))) (records_of (segments_of LOG_START (bytes_of t))) ≡ later (end_of (primary_of (bytes_of s))) (records_of (segments_of LOG_START (bytes_of s))) ++ r ∷ []) where
-  writes : later (placed_up_to l.components) (records_of (segments_of LOG_START (bytes_of t))) ≡ kept.frozen_writes ++ (kept.active_writes ++ r ∷ [])
+  writes : later (placed_up_to l.components) (records_of (segments_of LOG_START (bytes_of t))) ≡ kept.held.frozen_writes ++ (kept.held.active_writes ++ r ∷ [])
   writes =
       ap (λ (n : ℕ). later n (records_of (segments_of LOG_START (bytes_of t)))) (sym (end-stays pages log table l s t now kept within told))
       ∙ logged
       ∙ ap (λ (n : ℕ). later n (records_of (segments_of LOG_START (bytes_of s))) ++ r ∷ []) (end-is pages log table l s kept)
-      ∙ ap (λ (rs : List Record). rs ++ r ∷ []) kept.writes
-      ∙ append_assoc kept.frozen_writes kept.active_writes (r ∷ [])
+      ∙ ap (λ (rs : List Record). rs ++ r ∷ []) kept.held.writes
+      ∙ append_assoc kept.held.frozen_writes kept.held.active_writes (r ∷ [])
 
   pub kept-logged : SaysOld table r → IsLists l → length (rows_of table) < 2 ^ 64 - 1 → IsKept pages next (after_write table (write_of r.op)) (added (written_row (write_of r.op)) (is_some r.old_point) l) t
   kept-logged says lists few = record {
-    rests = rests;
-    components = components-stay pages log table l s t now kept within told;
-    slots = slots-stay pages log table l s t now kept within told;
-    frozen_writes = kept.frozen_writes;
-    active_writes = kept.active_writes ++ r ∷ [];
-    writes = writes;
-    frozen_is = kept.frozen_is;
-    active_is = ap (with_entry prim_reading (written_row (write_of r.op))) kept.active_is ∙ sym (changed-push [] kept.active_writes r);
-    active_count = omega (arith, length-append kept.active_writes (r ∷ []), kept.active_count, records);
-    rows_are = ap (rows_with (is_some (written_row (write_of r.op)).matter) (is_some r.old_point)) kept.rows_are ∙ rows-written table r.op (is_some r.old_point) (told-had table r says) few;
-    cut_rows_are = kept.cut_rows_are ∙ ap (λ (lists : List (List PrimRow)). length (rows_of (replayed (table_of lists) kept.frozen_writes))) (sym (lists-stay pages log table l s t now kept within told (after_write table (write_of r.op)) rests.recovers));
+    held = record {
+      rests = rests;
+      components = components-stay pages log table l s t now kept within told;
+      slots = slots-stay pages log table l s t now kept within told;
+      frozen_writes = kept.held.frozen_writes;
+      active_writes = kept.held.active_writes ++ r ∷ [];
+      writes = writes;
+      frozen_is = kept.held.frozen_is;
+      active_is = ap (with_entry prim_reading (written_row (write_of r.op))) kept.held.active_is ∙ sym (changed-push [] kept.held.active_writes r);
+      active_count = omega (arith, length-append kept.held.active_writes (r ∷ []), kept.held.active_count, records);
+      rows_are = ap (rows_with (is_some (written_row (write_of r.op)).matter) (is_some r.old_point)) kept.held.rows_are ∙ rows-written table r.op (is_some r.old_point) (told-had table r says) few;
+      cut_rows_are = kept.held.cut_rows_are ∙ ap (λ (lists : List (List PrimRow)). length (rows_of (replayed (table_of lists) kept.held.frozen_writes))) (sym (lists-stay pages log table l s t now kept within told (after_write table (write_of r.op)) rests.recovers));
+    };
     under_way = job-stays pages log table l s t now kept within told (added (written_row (write_of r.op)) (is_some r.old_point) l) l.job (λ row. refl) lists.planned kept.under_way;
   }

@@ -45,14 +45,14 @@ placed-end (e ∷ older) = refl
 
 -- the last write of the components, by what is kept of them
 pub end-is : (pages : ℕ) (log : Log) (table : Table) (l : Lists) (s : Story) → IsKept pages log table l s → end_of (primary_of (bytes_of s)) ≡ placed_up_to l.components
-end-is pages log table l s kept = ap end_of kept.components ∙ placed-end l.components
+end-is pages log table l s kept = ap end_of kept.held.components ∙ placed-end l.components
 
 module _ (pages : ℕ) (log : Log) (table : Table) (l : Lists) (s t : Story) (now : Option Story) (kept : IsKept pages log table l s) (within : WritesWithin LOG_START LOG_BYTES s now) (told : now ≡ Some t) where
   outside : (i : ℕ) → IsBeside (bytes_of s) i → IsOutside LOG_START LOG_BYTES i
-  outside i is = beside-log pages table (bytes_of s) i kept.rests.recovers is
+  outside i is = beside-log pages table (bytes_of s) i kept.held.rests.recovers is
 
   agrees : AgreeBeside (bytes_of s) (bytes_of t)
-  agrees = beside-agrees pages log table s t LOG_START LOG_BYTES now kept.rests within told outside
+  agrees = beside-agrees pages log table s t LOG_START LOG_BYTES now kept.held.rests within told outside
 
   ends_there : after s within.calls ≡ t
   ends_there = same_Some _ _ (sym within.told ∙ told)
@@ -62,20 +62,20 @@ module _ (pages : ℕ) (log : Log) (table : Table) (l : Lists) (s t : Story) (no
   same_primary = ap (components PRIMARY) agrees.directory
 
   pub components-stay : primary_of (bytes_of t) ≡ map (λ e. e.1) l.components
-  components-stay = same_primary ∙ kept.components
+  components-stay = same_primary ∙ kept.held.components
 
   pub slots-stay : (e : Numbered) → Contains (open_slots (directory_of (bytes_of t))) e ↔ Contains (open_of l) e
-  slots-stay = subst (λ (d : Directory). (e : Numbered) → Contains (open_slots d) e ↔ Contains (open_of l) e) (sym agrees.directory) kept.slots
+  slots-stay = subst (λ (d : Directory). (e : Numbered) → Contains (open_slots d) e ↔ Contains (open_of l) e) (sym agrees.directory) kept.held.slots
 
   pub end-stays : end_of (primary_of (bytes_of t)) ≡ placed_up_to l.components
   end-stays = ap end_of components-stay ∙ placed-end l.components
 
   -- the components show the lists that they showed
-  pub lists-stay : (after_it : Table) (r : Recovers pages after_it (bytes_of t)) → r.lists ≡ kept.rests.recovers.lists
+  pub lists-stay : (after_it : Table) (r : Recovers pages after_it (bytes_of t)) → r.lists ≡ kept.held.rests.recovers.lists
   lists-stay after_it r =
-      same_lists_shown (bytes_of t) (primary_of (bytes_of t)) r.lists kept.rests.recovers.lists r.shown
-      (subst (λ (x : List Slot). ShowAll (bytes_of t) x kept.rests.recovers.lists) (sym same_primary)
-      (ShowAll-same (bytes_of s) (bytes_of t) (primary_of (bytes_of s)) kept.rests.recovers.lists (primaries pages 0 (directory_of (bytes_of s)) kept.rests.recovers.opens.directory) agrees.content kept.rests.recovers.shown))
+      same_lists_shown (bytes_of t) (primary_of (bytes_of t)) r.lists kept.held.rests.recovers.lists r.shown
+      (subst (λ (x : List Slot). ShowAll (bytes_of t) x kept.held.rests.recovers.lists) (sym same_primary)
+      (ShowAll-same (bytes_of s) (bytes_of t) (primary_of (bytes_of s)) kept.held.rests.recovers.lists (primaries pages 0 (directory_of (bytes_of s)) kept.held.rests.recovers.opens.directory) agrees.content kept.held.rests.recovers.shown))
 
   page_stays : (page : ℕ) → FIRST_DATA_PAGE ≤ page → page_at (bytes_of t) page ≡ page_at (bytes_of s) page
   page_stays page behind =

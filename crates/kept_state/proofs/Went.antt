@@ -54,7 +54,7 @@ module _ (l : Lists) where
         images = LeavesOnly-reads (IsPageIn l) s new.story run;
         legible = λ table disk legible t now. legible-reads (IsPageIn l) s new.story run t now table disk l is legible;
         kept = λ log table kept t now. kept-reads (IsPageIn l) s new.story run t now old.pages log table l kept;
-        any_moment = λ log table kept. images-reads (IsPageIn l) s new.story run old.pages log table kept.rests;
+        any_moment = λ log table kept. images-reads (IsPageIn l) s new.story run old.pages log table kept.held.rests;
       }
 
   module _ {D : Type 0} (pages clock : D → ℕ) (story : D → Option Story) (counted : (device : D) (s : Story) → story device ≡ Some s → clock device ≡ clock_of s) where

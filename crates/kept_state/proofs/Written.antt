@@ -98,7 +98,7 @@ module _ (l : Lists) (lists : IsLists l) (owner : ℕ) (job : Job) (of : IsJobOf
 
   -- no component has the page
   pub next-free : (pages : ℕ) (log : Log) (table : Table) (s : Story) → IsKept pages log table l s → IsFree page (bytes_of s)
-  next-free pages log table s kept i inside = free-outside l.components l.ignored page i reserved (subst (λ (slots : List Slot). IsInExtents slots i) kept.components inside)
+  next-free pages log table s kept i inside = free-outside l.components l.ignored page i reserved (subst (λ (slots : List Slot). IsInExtents slots i) kept.held.components inside)
 
   -- the store can be read as before
   module _ (table : Table) (disk : List (List PrimRow)) (s t : Story) (now : Option Story) (within : WritesWithin (page * 4096) 4096 s now) (told : now ≡ Some t) (legible : IsLegible table disk l s) where
@@ -121,13 +121,13 @@ module _ (l : Lists) (lists : IsLists l) (owner : ℕ) (job : Job) (of : IsJobOf
     same_primary = ap (components PRIMARY) same_directory
 
     agrees : AgreeBeside (bytes_of s) (bytes_of t)
-    agrees = beside-agrees pages log table s t (page * 4096) 4096 now kept.rests within told (free-beside page (bytes_of s) behind (next-free pages log table s kept))
+    agrees = beside-agrees pages log table s t (page * 4096) 4096 now kept.held.rests within told (free-beside page (bytes_of s) behind (next-free pages log table s kept))
 
-    same_lists : rests.recovers.lists ≡ kept.rests.recovers.lists
+    same_lists : rests.recovers.lists ≡ kept.held.rests.recovers.lists
     same_lists =
-        same_lists_shown (bytes_of t) (primary_of (bytes_of t)) rests.recovers.lists kept.rests.recovers.lists rests.recovers.shown
-        (subst (λ (x : List Slot). ShowAll (bytes_of t) x kept.rests.recovers.lists) (sym same_primary)
-        (ShowAll-same (bytes_of s) (bytes_of t) (primary_of (bytes_of s)) kept.rests.recovers.lists (primaries pages 0 (directory_of (bytes_of s)) kept.rests.recovers.opens.directory) agrees.content kept.rests.recovers.shown))
+        same_lists_shown (bytes_of t) (primary_of (bytes_of t)) rests.recovers.lists kept.held.rests.recovers.lists rests.recovers.shown
+        (subst (λ (x : List Slot). ShowAll (bytes_of t) x kept.held.rests.recovers.lists) (sym same_primary)
+        (ShowAll-same (bytes_of s) (bytes_of t) (primary_of (bytes_of s)) kept.held.rests.recovers.lists (primaries pages 0 (directory_of (bytes_of s)) kept.held.rests.recovers.opens.directory) agrees.content kept.held.rests.recovers.shown))
 
     under_way : IsUnderWay l of.row s
     under_way = subst (λ (j : Option JobRow). IsUnderWayIf l j s) of.is kept.under_way
@@ -170,16 +170,18 @@ module _ (l : Lists) (lists : IsLists l) (owner : ℕ) (job : Job) (of : IsJobOf
 
     pub kept-written : IsKept pages log table (one_written l) t
     kept-written = record {
-      rests = rests;
-      components = same_primary ∙ kept.components;
-      slots = subst (λ (d : Directory). (e : Numbered) → Contains (open_slots d) e ↔ Contains (open_of l) e) (sym same_directory) kept.slots;
-      frozen_writes = kept.frozen_writes;
-      active_writes = kept.active_writes;
-      writes = ap (λ (segments : Segments). later (placed_up_to l.components) (records_of segments)) same_segments ∙ kept.writes;
-      frozen_is = kept.frozen_is;
-      active_is = kept.active_is;
-      active_count = kept.active_count;
-      rows_are = kept.rows_are;
-      cut_rows_are = kept.cut_rows_are ∙ ap (λ (lists : List (List PrimRow)). length (rows_of (replayed (table_of lists) kept.frozen_writes))) (sym same_lists);
+      held = record {
+        rests = rests;
+        components = same_primary ∙ kept.held.components;
+        slots = subst (λ (d : Directory). (e : Numbered) → Contains (open_slots d) e ↔ Contains (open_of l) e) (sym same_directory) kept.held.slots;
+        frozen_writes = kept.held.frozen_writes;
+        active_writes = kept.held.active_writes;
+        writes = ap (λ (segments : Segments). later (placed_up_to l.components) (records_of segments)) same_segments ∙ kept.held.writes;
+        frozen_is = kept.held.frozen_is;
+        active_is = kept.held.active_is;
+        active_count = kept.held.active_count;
+        rows_are = kept.held.rows_are;
+        cut_rows_are = kept.held.cut_rows_are ∙ ap (λ (lists : List (List PrimRow)). length (rows_of (replayed (table_of lists) kept.held.frozen_writes))) (sym same_lists);
+      };
       under_way = subst (λ (j : Option JobRow). IsUnderWayIf (one_written l) (one_written (record l { job = j })).job t) (sym of.is) under_way_now;
     }

@@ -1,24 +1,15 @@
--- What a store has on its device while nothing has stopped it, and how its lists belong to that.
-use Rattle.std.specs.Prelude.{◌≡◌, ◌↔◌, ℕ, ◌+◌, ◌*◌, ◌<◌, ◌≤◌, List, [], ◌++◌, length, map, Option, Some, None, Contains}
+-- What a store has on its device while nothing has stopped it: its lists, and the pages of a job that is under way.
+use Rattle.std.specs.Prelude.{ℕ, ◌+◌, ◌*◌, ◌<◌, ◌≤◌, Option, Some, None}
 use Rattle.dev_model.specs.Story.{Story, bytes_of, IsReadable}
-use Rattle.table_model.specs.Table.{Table, rows_of}
-use Rattle.wal_log.specs.Later.{later}
-use Rattle.wal_log.specs.Rules.{records_of}
-use Rattle.wal_log.specs.Segments.{segments_of}
+use Rattle.table_model.specs.Table.{Table}
 use Rattle.wal_log.specs.declared.log.Log.{Log}
-use Rattle.wal_log.specs.declared.records.Record.{Record}
-use Rattle.image_model.specs.declared.places.TheConstants.{LOG_START}
-use Rattle.image_model.specs.Recovered.{replayed}
-use Rattle.comp_dir.specs.Directory.{Numbered, directory_of, open_slots}
 use Rattle.page_codec.specs.declared.pages.TheConstants.{PAGE_BYTES}
 use Rattle.build_job.specs.Written.{AreWritten}
 pub use Rattle.component_image.specs.Changes.{changed, IsFrozenOf}
 use Rattle.component_image.specs.Content.{page_at}
-use Rattle.component_image.specs.Laid.{table_of}
-use Rattle.component_image.specs.Recovered.{primary_of}
-use Rattle.component_image.specs.Resting.{Rests}
 use Rattle.store_state.specs.declared.jobs.JobRow.{JobRow}
-use Rattle.store_state.specs.Lists.{Lists, open_of, placed_up_to, job_of}
+use Rattle.store_state.specs.Lists.{Lists, job_of}
+use Rattle.kept_state.specs.Held.{IsHeld}
 
 -- a place of a page
 pub record IsOnPage (page i : ℕ) : Type 0 where
@@ -34,19 +25,7 @@ abbrev pub IsUnderWayIf : Lists → Option JobRow → Story → Type 0
 IsUnderWayIf l None s = Unit {0}
 IsUnderWayIf l (Some row) s = IsUnderWay l row s
 
--- The store is at rest with this table, its components are those of the lists, and so are its open slots. The records of the log
--- behind the components are the writes of the frozen list and those of the active one, and the numbers of rows are those of the
--- table.
+-- the store has these lists on its device, and what is written of the job's component
 pub record IsKept (pages : ℕ) (log : Log) (table : Table) (l : Lists) (s : Story) : Type 0 where
-  pub rests : Rests pages log table s
-  pub components : primary_of (bytes_of s) ≡ map (λ e. e.1) l.components
-  pub slots : (e : Numbered) → Contains (open_slots (directory_of (bytes_of s))) e ↔ Contains (open_of l) e
-  pub frozen_writes : List Record
-  pub active_writes : List Record
-  pub writes : later (placed_up_to l.components) (records_of (segments_of LOG_START (bytes_of s))) ≡ frozen_writes ++ active_writes
-  pub frozen_is : IsFrozenOf l.frozen frozen_writes
-  pub active_is : l.active ≡ changed [] active_writes
-  pub active_count : length active_writes ≡ log.records
-  pub rows_are : l.rows ≡ length (rows_of table)
-  pub cut_rows_are : l.cut_rows ≡ length (rows_of (replayed (table_of rests.recovers.lists) frozen_writes))
+  pub held : IsHeld pages log table l s
   pub under_way : IsUnderWayIf l l.job s

@@ -50,5 +50,5 @@ pub fn written_job_may_stand()
     ensures { (pages : ℕ) (log : Log) (table : Table) (l : Lists) (s : Story) (row : JobRow) (kept : IsKept pages log table l s) → IsLists l → IsNumbered log l → l.job ≡ Some row
         → IsJob (job_of l row) → steps_left (job_of l row) ≡ 0 → IsSound pages 0 (described (job_of l row))
         → slot_of (slot_bytes (described (job_of l row))) ≡ described (job_of l row)
-        → MayStand pages s row.plan.slot (described (job_of l row)) kept.frozen_writes kept.rests.recovers.lists }
+        → MayStand pages s row.plan.slot (described (job_of l row)) kept.held.frozen_writes kept.held.rests.recovers.lists }
 {}

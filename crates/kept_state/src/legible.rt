@@ -28,7 +28,7 @@ ghost use Rattle.kept_state.specs.OnlyRead.{IsPageIn};
 
 /// A law: a store that nothing has stopped can be read, by the lists that its table recovers from.
 pub fn kept_is_legible()
-    ensures { (pages : ℕ) (log : Log) (table : Table) (l : Lists) (s : Story) (kept : IsKept pages log table l s) → IsLegible table kept.rests.recovers.lists l s }
+    ensures { (pages : ℕ) (log : Log) (table : Table) (l : Lists) (s : Story) (kept : IsKept pages log table l s) → IsLegible table kept.held.rests.recovers.lists l s }
 {}
 
 /// A law: calls that touch no page of a component leave a store legible, also where they fail: those that spare these

@@ -8,7 +8,7 @@ use Rattle.image_model.specs.Superblock.{declared}
 use Rattle.image_model.specs.Opening.{IsOpeningRange}
 use Rattle.component_image.specs.Recovered.{IsLookedAt}
 use Rattle.primary_ix.specs.declared.rows.PrimRow.{PrimRow}
-use Rattle.kept_state.specs.Keeping.{IsKept}
+use Rattle.kept_state.specs.Held.{IsHeld}
 use Rattle.store_machine.specs.Damage.{DamagesAre}
 use Rattle.store_machine.specs.Devices.{DeviceState, HoldsTable}
 use Rattle.store_machine.specs.Machine.{Machine, Opening, at_opening, after_all}
@@ -21,7 +21,7 @@ began_with table disk o = at_opening (record o { table = table; disk = disk })
 
 -- while nothing stopped the machine, this is on the device
 abbrev pub IsOnDevice : Machine → (pages : ℕ) → Story → Type 0
-IsOnDevice m pages s = m.stopped ≡ None → IsKept pages m.log m.table m.lists s
+IsOnDevice m pages s = m.stopped ≡ None → IsHeld pages m.log m.table m.lists s
 
 -- The opening found this table, with the lists that its components show: the end of the log and the lists in memory are those of the
 -- bytes. From there on the events were a run, with all that is known of such a device, and the device's calls since the opening were
@@ -30,12 +30,12 @@ pub record MadeFrom (table : Table) (o : Opening) (new : DeviceState) (events : 
   pub opened : Story
   pub is : o.story ≡ Some opened
   pub clock : clock_of opened ≡ o.clock
-  pub kept : IsKept new.pages o.log table o.lists opened
-  pub run : IsRun true (began_with table kept.rests.recovers.lists o) events
+  pub held : IsHeld new.pages o.log table o.lists opened
+  pub run : IsRun true (began_with table held.rests.recovers.lists o) events
   pub calls : Calls
   pub told : new.story ≡ Some (after opened calls)
-  pub made : ok_calls (clock_of opened) calls ≡ (after_all (began_with table kept.rests.recovers.lists o) events).device_calls
-  pub left : IsOnDevice (after_all (began_with table kept.rests.recovers.lists o) events) new.pages (after opened calls)
+  pub made : ok_calls (clock_of opened) calls ≡ (after_all (began_with table held.rests.recovers.lists o) events).device_calls
+  pub left : IsOnDevice (after_all (began_with table held.rests.recovers.lists o) events) new.pages (after opened calls)
 
 -- A store was opened on the device, and these events were made. The opening only read, and only where an opening looks; no fault went
 -- unseen; and where the device told, and all that an opening looks at was on the disk, the declared indexes are those of the bytes. The

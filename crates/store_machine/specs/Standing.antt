@@ -61,7 +61,7 @@ pub record Begins (o : Opening) (pages : ℕ) (opening : Story) : Type 0 where
   pub recovers : Recovers pages o.table (bytes_of opening)
   pub declared_is : declared (bytes_of opening) ≡ o.declared
   pub kept : IsKept pages o.log o.table o.lists opening
-  pub disk_is : o.disk ≡ kept.rests.recovers.lists
+  pub disk_is : o.disk ≡ kept.held.rests.recovers.lists
 
 -- What the device has told since the opening: its calls were those of the events, what is on it, and what each crash since
 -- then leaves.

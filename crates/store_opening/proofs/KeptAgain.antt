@@ -261,34 +261,38 @@ module _ (pages : ℕ) (components ignored : List Numbered) (log : Log) (records
   -- lists that are made so are kept
   made-kept : (x : Lists) → (b : Bool) → nat_lt (placed_up_to components) last ≡ b → x ≡ with_rest (if b then frozen_at last laid else laid) → IsKept pages log table x t
   made-kept x true test made = subst (λ (y : Lists). IsKept pages log table y t) (sym made) (record {
-    rests = rests;
-    components = primary-placed pages (bytes_of t) components ignored is.slots;
-    slots = slots-found pages (bytes_of t) components ignored is.slots;
-    frozen_writes = first;
-    active_writes = rest;
-    writes = split;
-    frozen_is = refl;
-    active_is = refl;
-    active_count = newest.count;
-    rows_are = rows_all;
-    cut_rows_are = rows_first;
+    held = record {
+      rests = rests;
+      components = primary-placed pages (bytes_of t) components ignored is.slots;
+      slots = slots-found pages (bytes_of t) components ignored is.slots;
+      frozen_writes = first;
+      active_writes = rest;
+      writes = split;
+      frozen_is = refl;
+      active_is = refl;
+      active_count = newest.count;
+      rows_are = rows_all;
+      cut_rows_are = rows_first;
+    };
     under_way = tt;
   })
   made-kept x false test made =
       let same : placed_up_to components ≡ last = grind (arith, nat_tests, test, is.behind) in
       let none : first ≡ [] = ap (λ (n : ℕ). up_to last (later n all)) same ∙ none-between last all in
       subst (λ (y : Lists). IsKept pages log table y t) (sym made) (record {
-        rests = rests;
-        components = primary-placed pages (bytes_of t) components ignored is.slots;
-        slots = slots-found pages (bytes_of t) components ignored is.slots;
-        frozen_writes = [];
-        active_writes = rest;
-        writes = split ∙ ap (λ (rs : List Record). rs ++ rest) none;
-        frozen_is = refl;
-        active_is = ap (λ (rs : List Record). changed (changed [] rs) rest) none;
-        active_count = newest.count;
-        rows_are = rows_all;
-        cut_rows_are = placed_are;
+        held = record {
+          rests = rests;
+          components = primary-placed pages (bytes_of t) components ignored is.slots;
+          slots = slots-found pages (bytes_of t) components ignored is.slots;
+          frozen_writes = [];
+          active_writes = rest;
+          writes = split ∙ ap (λ (rs : List Record). rs ++ rest) none;
+          frozen_is = refl;
+          active_is = ap (λ (rs : List Record). changed (changed [] rs) rest) none;
+          active_count = newest.count;
+          rows_are = rows_all;
+          cut_rows_are = placed_are;
+        };
         under_way = tt;
       })
 

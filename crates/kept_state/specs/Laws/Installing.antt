@@ -130,10 +130,10 @@ module _ (pages : ℕ) (log : Log) (table : Table) (l : Lists) (s : Story) (row 
   under_way = subst (λ (j : Option JobRow). IsUnderWayIf l j s) is kept.under_way
 
   to_lists : (e : Numbered) → Contains (open_slots slots) e → Contains (open_of l) e
-  to_lists e here = (kept.slots e).0 here
+  to_lists e here = (kept.held.slots e).0 here
 
   primary_end : end_of (primary_of (bytes_of s)) ≡ placed_up_to l.components
-  primary_end = ap end_of kept.components ∙ ends-up_to l.components
+  primary_end = ap end_of kept.held.components ∙ ends-up_to l.components
 
   apart : All (λ e. shares_page e.1 new ≡ false) (open_slots slots)
   apart =
@@ -142,7 +142,7 @@ module _ (pages : ℕ) (log : Log) (table : Table) (l : Lists) (s : Story) (row 
 
   newer : All (λ e. e.1.index ≡ new.index → e.1.last_lsn < new.first_lsn) (open_slots slots)
   newer k d lt primary =
-      let ends : _ = open-behind pages 0 PRIMARY slots kept.rests.recovers.opens.directory k d lt primary in
+      let ends : _ = open-behind pages 0 PRIMARY slots kept.held.rests.recovers.opens.directory k d lt primary in
       omega (arith, ends, primary_end)
 
   -- a component of the primary is live
@@ -162,18 +162,18 @@ module _ (pages : ℕ) (log : Log) (table : Table) (l : Lists) (s : Story) (row 
       by_first : (es : List Numbered) → l.components ≡ es → (new.first_lsn ≡ 1) ⊎ Any (λ e. (e.1.index ≡ new.index) × (e.1.last_lsn + 1 ≡ new.first_lsn)) (live_slots (open_slots slots))
       by_first [] are = inl (ap (λ (es : List Numbered). placed_up_to es + 1) are)
       by_first (e ∷ es) are =
-          let found : Any (λ f. (f.1.index ≡ PRIMARY) × (f.1 ≡ e.1)) (live_slots (open_slots slots)) = (live-component (e.1 ∷ map (λ f. f.1) es) (kept.components ∙ ap (map (λ f. f.1)) are)).0 in
+          let found : Any (λ f. (f.1.index ≡ PRIMARY) × (f.1 ≡ e.1)) (live_slots (open_slots slots)) = (live-component (e.1 ∷ map (λ f. f.1) es) (kept.held.components ∙ ap (map (λ f. f.1)) are)).0 in
           inr (found.0, found.1, found.2, found.3, (found.4.0, ap (λ (t : Slot). t.last_lsn + 1) found.4.1 ∙ sym (ap (λ (fs : List Numbered). placed_up_to fs + 1) are)))
 
   room : length (filter (λ e. same_index e.1 new) (live_slots (open_slots slots))) < MOST_LIVE
   room =
       let placed_all : length (components PRIMARY slots) ≡ length (filter (λ e. e.1.index == PRIMARY) (live_slots (open_slots slots))) = length-placed (filter (λ e. e.1.index == PRIMARY) (live_slots (open_slots slots))) in
-      let are : length (components PRIMARY slots) ≡ length l.components = ap length kept.components ∙ length-map l.components (λ e. e.1) in
+      let are : length (components PRIMARY slots) ≡ length l.components = ap length kept.held.components ∙ length-map l.components (λ e. e.1) in
       omega (arith, placed_all, are, planned.room)
 
   pub may-be-added : MayBeAdded pages 0 row.plan.slot new slots
   may-be-added = record {
-    opens = kept.rests.recovers.opens.directory;
+    opens = kept.held.rests.recovers.opens.directory;
     inside = inside;
     closed = shut-at 0 row.plan.slot slots (AllOf-from (λ e. e.0 ≢ 0 + row.plan.slot) (open_slots slots) closed);
     sound = sound;
@@ -188,9 +188,9 @@ module _ (pages : ℕ) (log : Log) (table : Table) (l : Lists) (s : Story) (row 
       closed k d lt same = among (λ e. e.0 ≢ row.plan.slot) (open_slots slots) (open_of l) to_lists planned.closed k d lt (omega (arith, same))
 
   -- the records behind the cut are those of the active list
-  pub active-later : later l.cut (records_of (segments_of LOG_START (bytes_of s))) ≡ kept.active_writes
+  pub active-later : later l.cut (records_of (segments_of LOG_START (bytes_of s))) ≡ kept.held.active_writes
   active-later =
-      newest-are log (segments_of LOG_START (bytes_of s)) (placed_up_to l.components) l.cut kept.frozen_writes kept.active_writes kept.rests.log_of below numbered.next kept.writes kept.active_count
+      newest-are log (segments_of LOG_START (bytes_of s)) (placed_up_to l.components) l.cut kept.held.frozen_writes kept.held.active_writes kept.held.rests.log_of below numbered.next kept.held.writes kept.held.active_count
     where
       below : placed_up_to l.components ≤ l.cut
       below = by_list l.frozen lists.is_cut
@@ -199,25 +199,25 @@ module _ (pages : ℕ) (log : Log) (table : Table) (l : Lists) (s : Story) (row 
           by_list None is_cut = omega (arith, is_cut)
           by_list (Some rows) is_cut = omega (arith, is_cut)
 
-  pub may-stand : MayStand pages s row.plan.slot new kept.frozen_writes kept.rests.recovers.lists
+  pub may-stand : MayStand pages s row.plan.slot new kept.held.frozen_writes kept.held.rests.recovers.lists
   may-stand = record {
     below = planned.slot;
     behind = planned.from;
     directory = opens-with_slot pages 0 row.plan.slot new slots may-be-added;
     components_are = added-newest pages row.plan.slot new slots may-be-added refl;
-    shown = kept.rests.recovers.shown;
+    shown = kept.held.rests.recovers.shown;
     shows = record {
       is = record { count = ap length (sym rows_are); ascends = subst (Ascends prim_layout) rows_are lists.frozen_ascends; stored = subst (All (IsStored prim_layout)) rows_are lists.frozen_stored };
       shows = subst (λ (rows : List PrimRow). ShowsTree prim_layout rows new.first (page_at (bytes_of s))) rows_are (AreWritten-shows (job_of l row) (page_at (bytes_of s)) job done under_way.pages);
     };
-    counts = kept.cut_rows_are ∙ ap (λ (t : Table). length (rows_of t)) (sym (laid-changed [] kept.frozen_writes (table_of kept.rests.recovers.lists)));
-    log = opens-newest log (segments_of LOG_START (bytes_of s)) l.cut kept.rests.log_of numbered.next;
-    split = ap (λ (n : ℕ). later n (records_of (segments_of LOG_START (bytes_of s)))) primary_end ∙ kept.writes ∙ ap (λ (rs : List Record). kept.frozen_writes ++ rs) (sym active-later);
+    counts = kept.held.cut_rows_are ∙ ap (λ (t : Table). length (rows_of t)) (sym (laid-changed [] kept.held.frozen_writes (table_of kept.held.rests.recovers.lists)));
+    log = opens-newest log (segments_of LOG_START (bytes_of s)) l.cut kept.held.rests.log_of numbered.next;
+    split = ap (λ (n : ℕ). later n (records_of (segments_of LOG_START (bytes_of s)))) primary_end ∙ kept.held.writes ∙ ap (λ (rs : List Record). kept.held.frozen_writes ++ rs) (sym active-later);
   }
     where
-      rows_are : frozen_rows l.frozen ≡ changed [] kept.frozen_writes
+      rows_are : frozen_rows l.frozen ≡ changed [] kept.held.frozen_writes
       rows_are = by_list l.frozen refl
         where
-          by_list : (rows : Option (List PrimRow)) → l.frozen ≡ rows → frozen_rows l.frozen ≡ changed [] kept.frozen_writes
+          by_list : (rows : Option (List PrimRow)) → l.frozen ≡ rows → frozen_rows l.frozen ≡ changed [] kept.held.frozen_writes
           by_list None none = absurd (planned.frozen none)
-          by_list (Some rows) some = ap frozen_rows some ∙ subst (λ (o : Option (List PrimRow)). IsFrozenOf o kept.frozen_writes) some kept.frozen_is
+          by_list (Some rows) some = ap frozen_rows some ∙ subst (λ (o : Option (List PrimRow)). IsFrozenOf o kept.held.frozen_writes) some kept.held.frozen_is

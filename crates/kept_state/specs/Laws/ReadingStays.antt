@@ -64,17 +64,17 @@ end_of-placed [] = refl
 end_of-placed (e ∷ comps) = refl
 
 -- a store that nothing has stopped can be read
-pub kept-legible : (pages : ℕ) (log : Log) (table : Table) (l : Lists) (s : Story) (kept : IsKept pages log table l s) → IsLegible table kept.rests.recovers.lists l s
+pub kept-legible : (pages : ℕ) (log : Log) (table : Table) (l : Lists) (s : Story) (kept : IsKept pages log table l s) → IsLegible table kept.held.rests.recovers.lists l s
 kept-legible pages log table l s kept =
     let told : contents_of (extents_of l.components) (Some s) ≡ Some (page_bytes s) =
-    contents-settled (extents_of l.components) s (λ i place. kept.rests.content_calm i (subst (λ (slots : List Slot). IsInExtents slots i) (sym kept.components) (lent-inside l.components i place))) in
-    let shown : ShowAll (bytes_of s) (map (λ e. e.1) l.components) kept.rests.recovers.lists = subst (λ (slots : List Slot). ShowAll (bytes_of s) slots kept.rests.recovers.lists) kept.components kept.rests.recovers.shown in
-    let end : end_of (primary_of (bytes_of s)) ≡ placed_up_to l.components = ap end_of kept.components ∙ end_of-placed l.components in
-    let writes : table ≡ replayed (table_of kept.rests.recovers.lists) (kept.frozen_writes ++ kept.active_writes) =
-    kept.rests.recovers.table_is ∙ ap (replayed (table_of kept.rests.recovers.lists)) (ap (λ (n : ℕ). later n (records_of (segments_of LOG_START (bytes_of s)))) end ∙ kept.writes) in
+    contents-settled (extents_of l.components) s (λ i place. kept.held.rests.content_calm i (subst (λ (slots : List Slot). IsInExtents slots i) (sym kept.held.components) (lent-inside l.components i place))) in
+    let shown : ShowAll (bytes_of s) (map (λ e. e.1) l.components) kept.held.rests.recovers.lists = subst (λ (slots : List Slot). ShowAll (bytes_of s) slots kept.held.rests.recovers.lists) kept.held.components kept.held.rests.recovers.shown in
+    let end : end_of (primary_of (bytes_of s)) ≡ placed_up_to l.components = ap end_of kept.held.components ∙ end_of-placed l.components in
+    let writes : table ≡ replayed (table_of kept.held.rests.recovers.lists) (kept.held.frozen_writes ++ kept.held.active_writes) =
+    kept.held.rests.recovers.table_is ∙ ap (replayed (table_of kept.held.rests.recovers.lists)) (ap (λ (n : ℕ). later n (records_of (segments_of LOG_START (bytes_of s)))) end ∙ kept.held.writes) in
     record {
-      shown = shown-told l.components kept.rests.recovers.lists (bytes_of s) (contents_of (extents_of l.components) (Some s)) told shown;
-      fits = fits-logged table l.active l.frozen kept.rests.recovers.lists kept.frozen_writes kept.active_writes kept.frozen_is kept.active_is writes;
+      shown = shown-told l.components kept.held.rests.recovers.lists (bytes_of s) (contents_of (extents_of l.components) (Some s)) told shown;
+      fits = fits-logged table l.active l.frozen kept.held.rests.recovers.lists kept.held.frozen_writes kept.held.active_writes kept.held.frozen_is kept.held.active_is writes;
     }
 
 -- what the components' pages hold is told
@@ -265,22 +265,24 @@ module _ (Within : ℕ → ℕ → Type 0) (s : Story) (now : Option Story) (run
 
     pub kept-reads : (pages : ℕ) (log : Log) (table : Table) (l : Lists) → IsKept pages log table l s → IsKept pages log table l t
     kept-reads pages log table l kept =
-        let rests : Rests pages log table t = rests-reads pages log table kept.rests in
-        let lists : kept.rests.recovers.lists ≡ rests.recovers.lists =
-        same_lists_shown (bytes_of s) (primary_of (bytes_of s)) kept.rests.recovers.lists rests.recovers.lists kept.rests.recovers.shown
+        let rests : Rests pages log table t = rests-reads pages log table kept.held.rests in
+        let lists : kept.held.rests.recovers.lists ≡ rests.recovers.lists =
+        same_lists_shown (bytes_of s) (primary_of (bytes_of s)) kept.held.rests.recovers.lists rests.recovers.lists kept.held.rests.recovers.shown
         (subst (λ (bytes : Bytes). ShowAll bytes (primary_of bytes) rests.recovers.lists) bytes_same rests.recovers.shown) in
         record {
-          rests = rests;
-          components = ap primary_of bytes_same ∙ kept.components;
-          slots = subst (λ (bytes : Bytes). (e : Numbered) → Contains (open_slots (directory_of bytes)) e ↔ Contains (open_of l) e) (sym bytes_same) kept.slots;
-          frozen_writes = kept.frozen_writes;
-          active_writes = kept.active_writes;
-          writes = ap (λ (bytes : Bytes). later (placed_up_to l.components) (records_of (segments_of LOG_START bytes))) bytes_same ∙ kept.writes;
-          frozen_is = kept.frozen_is;
-          active_is = kept.active_is;
-          active_count = kept.active_count;
-          rows_are = kept.rows_are;
-          cut_rows_are = kept.cut_rows_are ∙ ap (λ (disk : List (List PrimRow)). length (rows_of (replayed (table_of disk) kept.frozen_writes))) lists;
+          held = record {
+            rests = rests;
+            components = ap primary_of bytes_same ∙ kept.held.components;
+            slots = subst (λ (bytes : Bytes). (e : Numbered) → Contains (open_slots (directory_of bytes)) e ↔ Contains (open_of l) e) (sym bytes_same) kept.held.slots;
+            frozen_writes = kept.held.frozen_writes;
+            active_writes = kept.held.active_writes;
+            writes = ap (λ (bytes : Bytes). later (placed_up_to l.components) (records_of (segments_of LOG_START bytes))) bytes_same ∙ kept.held.writes;
+            frozen_is = kept.held.frozen_is;
+            active_is = kept.held.active_is;
+            active_count = kept.held.active_count;
+            rows_are = kept.held.rows_are;
+            cut_rows_are = kept.held.cut_rows_are ∙ ap (λ (disk : List (List PrimRow)). length (rows_of (replayed (table_of disk) kept.held.frozen_writes))) lists;
+          };
           under_way = under_way-reads l l.job kept.under_way;
         }
 

@@ -68,15 +68,15 @@ opens-from device now indexes log lists pages clock_told later reads opens kept 
       let u : Story = after s run.calls in
       let rest : IsKept device.pages log table lists u = kept s is holds.looked_calm holds.content_calm table holds.recovers u run.told in
       let same : bytes_of u ≡ bytes_of s = bytes_of-reads IsOpeningRange s run.calls run.reads in
-      (rest.rests.recovers.lists, stands_at u run.told table rest (ap declared same ∙ (opens s is holds.looked_calm).1));
+      (rest.held.rests.recovers.lists, stands_at u run.told table rest (ap declared same ∙ (opens s is holds.looked_calm).1));
 }
   where
     opened : StoreState
     opened = opened_state now indexes log lists
 
-    stands_at : (u : Story) → now.story ≡ Some u → (table : Table) (rest : IsKept device.pages log table lists u) → declared (bytes_of u) ≡ indexes → Stands true (opening_of table rest.rests.recovers.lists opened) opened []
+    stands_at : (u : Story) → now.story ≡ Some u → (table : Table) (rest : IsKept device.pages log table lists u) → declared (bytes_of u) ≡ indexes → Stands true (opening_of table rest.held.rests.recovers.lists opened) opened []
     stands_at u told table rest is =
-        subst (λ (p : ℕ). Stands true (opening_of table rest.rests.recovers.lists (record opened { device = record now { pages = p } })) (record opened { device = record now { pages = p } }) []) (sym pages)
+        subst (λ (p : ℕ). Stands true (opening_of table rest.held.rests.recovers.lists (record opened { device = record now { pages = p } })) (record opened { device = record now { pages = p } }) []) (sym pages)
         (record {
           opened_at = refl;
           opened_faults = refl;
@@ -88,9 +88,9 @@ opens-from device now indexes log lists pages clock_told later reads opens kept 
             begins = record {
               is = told;
               clock = sym (clock_told u told);
-              calm = looked-calm device.pages log table u rest.rests;
-              content_calm = rest.rests.content_calm;
-              recovers = rest.rests.recovers;
+              calm = looked-calm device.pages log table u rest.held.rests;
+              content_calm = rest.held.rests.content_calm;
+              recovers = rest.held.rests.recovers;
               declared_is = is;
               kept = rest;
               disk_is = refl;
@@ -104,8 +104,8 @@ opens-from device now indexes log lists pages clock_told later reads opens kept 
             replayed = refl;
             kept = λ _. rest;
             legible = kept-legible device.pages log table lists u rest;
-            rows = rest.rows_are;
+            rows = rest.held.rows_are;
             acked = tt;
-            survives = EachMoment-start u (Keeps device.pages table [] []) (λ image now_is. inl (rest-image device.pages log table u image rest.rests now_is));
+            survives = EachMoment-start u (Keeps device.pages table [] []) (λ image now_is. inl (rest-image device.pages log table u image rest.held.rests now_is));
           };
         })

@@ -3,7 +3,7 @@ use Rattle.std.proofs.Common.{◌≡◌, ℕ, true, List, Some, None, refl, sym,
 use Rattle.dev_model.specs.Story.{Story, after}
 use Rattle.table_model.specs.Table.{Table}
 use Rattle.primary_ix.specs.declared.rows.PrimRow.{PrimRow}
-use Rattle.kept_state.specs.Keeping.{IsKept}
+use Rattle.kept_state.specs.Held.{IsHeld}
 use Rattle.wal_log.specs.declared.log.Log.{Log}
 use Rattle.store_state.specs.Lists.{Lists}
 use Rattle.store_machine.specs.Devices.{DeviceState}
@@ -18,7 +18,7 @@ made-from table disk o store events stands = record {
   opened = tells.opening;
   is = tells.begins.is;
   clock = tells.begins.clock;
-  kept = tells.begins.kept;
+  held = tells.begins.kept.held;
   run = subst (λ (lists : List (List PrimRow)). IsRun true (began_with table lists o) events) tells.begins.disk_is stands.run;
   calls = tells.calls;
   told = tells.told ∙ ap (λ (u : Story). Some u) tells.went;
@@ -32,14 +32,14 @@ made-from table disk o store events stands = record {
     tells : Tells (record o { table = table; disk = disk }) store m
     tells = stands.tells refl
 
-    same : m ≡ after_all (began_with table tells.begins.kept.rests.recovers.lists o) events
+    same : m ≡ after_all (began_with table tells.begins.kept.held.rests.recovers.lists o) events
     same = ap (λ (lists : List (List PrimRow)). after_all (began_with table lists o) events) tells.begins.disk_is
 
     kept_now : IsOnDevice m store.device.pages (after tells.opening tells.calls)
     kept_now going =
-        subst (λ (u : Story). IsKept store.device.pages m.log m.table m.lists u) tells.went
-        (subst (λ (l : Lists). IsKept store.device.pages m.log m.table l tells.now) stands.has.lists
-        (subst (λ (log : Log). IsKept store.device.pages log m.table store.lists tells.now) stands.has.log (tells.kept going)))
+        subst (λ (u : Story). IsHeld store.device.pages m.log m.table m.lists u) tells.went
+        (subst (λ (l : Lists). IsHeld store.device.pages m.log m.table l tells.now) stands.has.lists
+        (subst (λ (log : Log). IsHeld store.device.pages log m.table store.lists tells.now) stands.has.log (tells.kept going).held))
 
 pub made-since : (device : DeviceState) (store : StoreState) (events : List Event) → StandsSince device store events → MadeSince device store.device store.acks events
 made-since device store events since = record {

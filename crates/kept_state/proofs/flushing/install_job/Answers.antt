@@ -12,7 +12,7 @@ use Rattle.kept_state.proofs.flushing.install_job.Goals as goal
 pub returns-in_err-install_component-clause-any_moment : goal.returns-in_err-install_component-clause-any_moment
 returns-in_err-install_component-clause-any_moment g c log table s is numbered kept =
     let ranges : HasRanges c.slot-slot.result = search rules in
-    c.install_component.ensures.any_moment log table kept.frozen_writes kept.rests.recovers.lists s is kept.rests
+    c.install_component.ensures.any_moment log table kept.held.frozen_writes kept.held.rests.recovers.lists s is kept.held.rests
     (may-stand-there c.args.state.now.0 c.lists_have_rules.ensures c.requires.begun.0 c.args.job.now c.requires.begun.1 c.jobs_have_rules.ensures c.requires.written c.plan.result.slot c.slot-slot.result (ap (λ (p : JobPlan). p.slot) c.plan.ensures) c.slot-slot.ensures.slot (g.D.Device.pages c.args.device.now) log table s kept numbered c.requires.on_device c.requires.below
     (λ placeable. c.slot-slot.ensures.sound (g.D.Device.pages c.args.device.now) 0 placeable) ranges)
     (closed-there c.args.state.now.0 c.lists_have_rules.ensures c.requires.begun.0 c.args.job.now c.requires.begun.1 c.jobs_have_rules.ensures c.requires.written c.plan.result.slot c.slot-slot.result (ap (λ (p : JobPlan). p.slot) c.plan.ensures) c.slot-slot.ensures.slot (g.D.Device.pages c.args.device.now) log table s kept numbered c.requires.on_device c.requires.below
@@ -28,7 +28,7 @@ returns-in_err-install_component-clause-legible g c table disk =
 pub returns-clause-any_moment : goal.returns-clause-any_moment
 returns-clause-any_moment g c log table s is numbered kept =
     let ranges : HasRanges c.slot-slot.result = search rules in
-    c.install_component.ensures.any_moment log table kept.frozen_writes kept.rests.recovers.lists s is kept.rests
+    c.install_component.ensures.any_moment log table kept.held.frozen_writes kept.held.rests.recovers.lists s is kept.held.rests
     (may-stand-there c.args.state.now.0 c.lists_have_rules.ensures c.requires.begun.0 c.args.job.now c.requires.begun.1 c.jobs_have_rules.ensures c.requires.written c.plan.result.slot c.slot-slot.result (ap (λ (p : JobPlan). p.slot) c.plan.ensures) c.slot-slot.ensures.slot (g.D.Device.pages c.args.device.now) log table s kept numbered c.requires.on_device c.requires.below
     (λ placeable. c.slot-slot.ensures.sound (g.D.Device.pages c.args.device.now) 0 placeable) ranges)
     (closed-there c.args.state.now.0 c.lists_have_rules.ensures c.requires.begun.0 c.args.job.now c.requires.begun.1 c.jobs_have_rules.ensures c.requires.written c.plan.result.slot c.slot-slot.result (ap (λ (p : JobPlan). p.slot) c.plan.ensures) c.slot-slot.ensures.slot (g.D.Device.pages c.args.device.now) log table s kept numbered c.requires.on_device c.requires.below
@@ -49,10 +49,10 @@ returns-clause-kept g c log table s is numbered kept t told =
     subst (λ (l : Lists). IsKept (g.D.Device.pages c.args.device.now) log table l t) (sym lists)
     (kept-installed c.args.state.now.0 c.lists_have_rules.ensures c.requires.begun.0 c.args.job.now c.requires.begun.1 c.jobs_have_rules.ensures c.requires.written c.plan.result.slot c.slot-slot.result (ap (λ (p : JobPlan). p.slot) c.plan.ensures) c.slot-slot.ensures.slot (g.D.Device.pages c.args.device.now) log table s kept numbered c.requires.on_device c.requires.below
     (λ placeable. c.slot-slot.ensures.sound (g.D.Device.pages c.args.device.now) 0 placeable) ranges t
-    (c.in_ok-install_component.ensures.rests log table kept.frozen_writes kept.rests.recovers.lists s is kept.rests may closed written t told)
+    (c.in_ok-install_component.ensures.rests log table kept.held.frozen_writes kept.held.rests.recovers.lists s is kept.held.rests may closed written t told)
     (c.install_component.ensures.same_segments s is t told)
-    (c.in_ok-install_component.ensures.installed s is kept.rests.directory_rest closed t told)
-    (c.in_ok-install_component.ensures.placed log table kept.frozen_writes kept.rests.recovers.lists s is kept.rests may closed written t told))
+    (c.in_ok-install_component.ensures.installed s is kept.held.rests.directory_rest closed t told)
+    (c.in_ok-install_component.ensures.placed log table kept.held.frozen_writes kept.held.rests.recovers.lists s is kept.held.rests may closed written t told))
 
 pub returns-clause-legible_installed : goal.returns-clause-legible_installed
 returns-clause-legible_installed g c log table disk s is kept legible t told =

@@ -23,7 +23,7 @@ returns-in_err-write_page-clause-did g c =
 pub returns-in_err-write_page-clause-any_moment : goal.returns-in_err-write_page-clause-any_moment
 returns-in_err-write_page-clause-any_moment g c log table s is kept =
     let next : c.in-Write.page ≡ c.args.job.now.plan.extent.first + c.args.job.now.written = search rules in
-    c.write_page.ensures.any_moment log table s is kept.rests
+    c.write_page.ensures.any_moment log table s is kept.held.rests
     (next-free c.args.state.now.0 c.lists_have_rules.ensures c.requires.begun.0 c.args.job.now c.requires.begun.1 c.requires.left c.in-Write.page next (g.D.Device.pages c.args.device.now) log table s kept)
 
 pub returns-in_err-write_page-clause-legible : goal.returns-in_err-write_page-clause-legible
@@ -35,7 +35,7 @@ returns-in_err-write_page-clause-legible g c table disk s is legible t told =
 pub returns-clause-any_moment : goal.returns-clause-any_moment
 returns-clause-any_moment g c log table s is kept =
     let next : c.in-Write.page ≡ c.args.job.now.plan.extent.first + c.args.job.now.written = search rules in
-    c.write_page.ensures.any_moment log table s is kept.rests
+    c.write_page.ensures.any_moment log table s is kept.held.rests
     (next-free c.args.state.now.0 c.lists_have_rules.ensures c.requires.begun.0 c.args.job.now c.requires.begun.1 c.requires.left c.in-Write.page next (g.D.Device.pages c.args.device.now) log table s kept)
 
 pub returns-clause-kept : goal.returns-clause-kept
@@ -46,7 +46,7 @@ returns-clause-kept g c log table s is kept t told =
     subst (λ (l : Lists). IsKept (g.D.Device.pages c.args.device.now) log table l t) (sym lists)
     (kept-written c.args.state.now.0 c.lists_have_rules.ensures c.requires.begun.0 c.args.job.now c.requires.begun.1 c.requires.left c.in-Write.page next (g.D.Device.pages c.args.device.now) log table s t
     (g.D.Device.story c.write_page.new.device) c.page.new.buf kept (c.write_page.ensures.within s is) told
-    (c.write_page.ensures.rests log table s is kept.rests free t told) (c.write_page.ensures.same_directory s is t told) (c.write_page.ensures.same_segments s is t told)
+    (c.write_page.ensures.rests log table s is kept.held.rests free t told) (c.write_page.ensures.same_directory s is t told) (c.write_page.ensures.same_segments s is t told)
     (c.in_ok-write_page.ensures.written s is t told) c.page.ensures)
 
 pub returns-clause-legible : goal.returns-clause-legible

@@ -9,4 +9,4 @@ pub returns-clause-kept : goal.returns-clause-kept
 returns-clause-kept c pages log table l s t now run told kept = kept-reads (IsPageIn l) s now run t told pages log table l kept
 
 pub returns-clause-images : goal.returns-clause-images
-returns-clause-images c pages log table l s now run kept = images-reads (IsPageIn l) s now run pages log table kept.rests
+returns-clause-images c pages log table l s now run kept = images-reads (IsPageIn l) s now run pages log table kept.held.rests

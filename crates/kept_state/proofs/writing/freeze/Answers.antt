@@ -10,7 +10,7 @@ use Rattle.kept_state.proofs.writing.freeze.Goals as goal
 
 pub returns-in_err-change_segments-clause-any_moment : goal.returns-in_err-change_segments-clause-any_moment
 returns-in_err-change_segments-clause-any_moment g c table s is kept =
-    c.change_segments.ensures.any_moment table s is kept.rests
+    c.change_segments.ensures.any_moment table s is kept.held.rests
     (ends-before (g.D.Device.pages c.args.device.now) c.args.log.now table c.args.state.now.0 s kept c.requires.numbered c.lists_have_rules.ensures c.requires.none_frozen)
 
 pub returns-in_err-change_segments-clause-legible : goal.returns-in_err-change_segments-clause-legible
@@ -19,7 +19,7 @@ returns-in_err-change_segments-clause-legible g c table disk s is legible t told
 
 pub returns-clause-any_moment : goal.returns-clause-any_moment
 returns-clause-any_moment g c table s is kept =
-    c.change_segments.ensures.any_moment table s is kept.rests
+    c.change_segments.ensures.any_moment table s is kept.held.rests
     (ends-before (g.D.Device.pages c.args.device.now) c.args.log.now table c.args.state.now.0 s kept c.requires.numbered c.lists_have_rules.ensures c.requires.none_frozen)
 
 pub returns-clause-kept : goal.returns-clause-kept
@@ -29,8 +29,8 @@ returns-clause-kept g c table s is kept t told =
     subst (λ (l : Lists). IsKept (g.D.Device.pages c.args.device.now) c.change_segments.new.log table l t) (sym frozen)
     (kept-frozen (g.D.Device.pages c.args.device.now) c.args.log.now c.change_segments.new.log table c.args.state.now.0 s t (g.D.Device.story c.change_segments.new.device)
     (c.args.log.now.next_lsn - 1) kept (c.change_segments.ensures.within s is) told
-    (c.in_ok-change_segments.ensures.rests table s is kept.rests there t told) c.in_ok-change_segments.ensures.records c.requires.none_frozen
-    (c.in_ok-change_segments.ensures.later_records table s is kept.rests there t told)
+    (c.in_ok-change_segments.ensures.rests table s is kept.held.rests there t told) c.in_ok-change_segments.ensures.records c.requires.none_frozen
+    (c.in_ok-change_segments.ensures.later_records table s is kept.held.rests there t told)
     c.lists_have_rules.ensures)
 
 pub returns-clause-legible : goal.returns-clause-legible
