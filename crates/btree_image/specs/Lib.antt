@@ -9,5 +9,6 @@ pub mod Rows
 pub mod Shown
 pub mod Steps
 pub mod Tested
+pub mod TreePages
 pub mod Visited
 pub mod Walks

@@ -1,3 +1,4 @@
+pub mod AllPages
 pub mod Components
 pub mod Damage
 pub mod Kinds

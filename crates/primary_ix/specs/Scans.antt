@@ -1,4 +1,4 @@
--- The pages that are read where all rows of the components are.
+-- The pages that scans of the components over all keys ask for. No public contract of the program needs this file.
 use Rattle.std.specs.Prelude.{ℕ, List, [], ◌∷◌, ◌++◌}
 use Rattle.geo_base.specs.declared.limits.TheConstants.{MOST_KEY}
 use Rattle.btree_image.specs.Visited.{visited_pages}
