@@ -17,7 +17,7 @@ ghost use Rattle.primary_ix.specs.Roots.{AreRoots};
 ghost use Rattle.primary_ix.specs.Pages.{IsTestedIn};
 ghost use Rattle.primary_ix.specs.Damage.{IsDamagedIn};
 ghost use Rattle.primary_ix.specs.Lookups.{in_memory, view_pages};
-ghost use Rattle.primary_ix.specs.Scans.{scan_pages};
+ghost use Rattle.primary_ix.specs.AllPages.{all_pages};
 ghost use Rattle.primary_ix.specs.Wanted.{table_row};
 ghost use Rattle.primary_ix.specs.Records.{record_in, record_of, table_rows};
 ghost use Rattle.primary_ix.specs.declared.rows.PrimRow.{PrimRow as PrimRowModel};
@@ -137,7 +137,7 @@ pub fn read_rows<D: Device>(
         × OnOk result (WhereTold (contents_of (extents_of state.now.0.components) (D.story device.old)) (λ contents. All (IsTestedIn (trees_of state.now.0.components) contents) pages))
         × ((disk : List (List PrimRowModel)) (roots : List ℕ) → AreShown (contents_of (extents_of state.now.0.components) (D.story device.old)) (trees_of state.now.0.components) disk
         → AreRoots (trees_of state.now.0.components) roots
-        → GoesBy result pages (scan_pages (trees_of state.now.0.components) disk roots)) }
+        → GoesBy result pages (all_pages (trees_of state.now.0.components) roots)) }
 
     ensures stays { WhereTold (D.story device.old) (λ s. IsOnlyRead (D.pages device.old) state.now.0 s (D.story device.new)) }
     ensures same_pages { D.pages device.new ≡ D.pages device.old }

@@ -1,3 +1,4 @@
+pub mod Everything
 pub mod Joined
 pub mod Memory
 pub mod Passed

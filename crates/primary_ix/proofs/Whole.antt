@@ -1,6 +1,6 @@
 -- A component that is read whole.
-use Rattle.std.proofs.Common.{◌≡◌, ◌≢◌, ℕ, suc, ◌-◌, ◌<◌, ◌≤◌, ◌^◌, Bool, true, false, not, ◌&&◌, ◌||◌, nat_le, List, [], ◌∷◌, ◌++◌, All, length, drop, drop-cons, get_or, cond, arith, refl, sym, ◌∙◌, ap, inl, inr, append_assoc, map, take, take-suc}
-use Rattle.std.proofs.lemmas.List.{append-nil, map-append}
+use Rattle.std.proofs.Common.{◌≡◌, ◌≢◌, ℕ, suc, ◌-◌, ◌<◌, ◌≤◌, ◌^◌, Bool, true, false, not, ◌&&◌, ◌||◌, nat_le, List, [], ◌∷◌, ◌++◌, All, length, drop, get_or, cond, arith, refl, sym, ◌∙◌, ap, inl, inr, append_assoc, map, take, take-suc}
+use Rattle.std.proofs.lemmas.List.{map-append}
 use Rattle.std.specs.Prelude.{AllPairs}
 use Rattle.std.proofs.lemmas.Bool.{cases_lt, leb-false, lt-leb}
 use Rattle.std.proofs.lemmas.List.Elements.{All-cons, All-nil}
@@ -12,15 +12,12 @@ use Rattle.std.specs.Cmp.{nat_cmp_is}
 use Rattle.std.specs.declared.cmp.Ordering.TheVariants.{Less, Equal, Greater}
 use Rattle.std.proofs.lemmas.Cmp.{ranked}
 use Rattle.btree_image.specs.Rows.{IsStored}
-use Rattle.btree_image.specs.Visited.{visited_pages}
 use Rattle.btree_image.specs.Given.{AreRanges, rows_met, is_inside}
 use Rattle.order_merge.specs.Ascending.{Ascends}
-use Rattle.primary_ix.specs.declared.component.PrimComp.{PrimComp}
 use Rattle.primary_ix.specs.declared.rows.PrimRow.{PrimRow}
 use Rattle.primary_ix.specs.Rows.{prim_layout}
 use Rattle.primary_ix.specs.Reading.{prim_reading}
-use Rattle.primary_ix.specs.Scans.{all_keys, scan_pages}
-use Rattle.primary_ix.proofs.Passed.{past_end}
+use Rattle.primary_ix.specs.Scans.{all_keys}
 
 pub all_keys-ranges : AreRanges nat_cmp all_keys
 all_keys-ranges = record {
@@ -28,13 +25,13 @@ all_keys-ranges = record {
   apart = λ i j d h inside. absurd (omega arith);
 }
 
-up_to : (a b : ℕ) → a ≤ b → is_gt (nat_cmp a b) ≡ false
+pub up_to : (a b : ℕ) → a ≤ b → is_gt (nat_cmp a b) ≡ false
 up_to a b h = elim (cases_lt a b) [
   | inl lt ↦ ap is_gt (sym (nat_cmp_is a b Less lt))
   | inr ge ↦ ap is_gt (sym (nat_cmp_is a b Equal (let e : a ≡ b = omega arith in e)))
 ]
 
-key_fits : (key : ℕ) → from_be_bytes w64 (to_be_bytes w64 key) ≡ key → key < 2 ^ 64
+pub key_fits : (key : ℕ) → from_be_bytes w64 (to_be_bytes w64 key) ≡ key → key < 2 ^ 64
 key_fits key e = omega arith
 
 met : (row : PrimRow) → IsStored prim_layout row → list_any (λ range. is_inside prim_layout range row) all_keys ≡ true
@@ -99,22 +96,6 @@ stays_from k (x ∷ xs) ascends =
 pub kept-stays : (rows : List PrimRow) → Ascends prim_reading rows → dedup behind rows ≡ rows
 kept-stays [] ascends = refl
 kept-stays (row ∷ rows) ascends = stays_from row rows ascends
-
--- the pages of the scans from a component on
-pub scan-here : (comps : List PrimComp) (disk : List (List PrimRow)) (roots : List ℕ) (i : ℕ) (comp : PrimComp)
-    → i < length comps → i < length disk → i < length roots
-    → scan_pages (drop i comps) (drop i disk) (drop i roots)
-    ≡ visited_pages prim_layout (get_or disk i []) all_keys (get_or comps i comp).tree.first (get_or roots i 0) ++ scan_pages (drop (suc i) comps) (drop (suc i) disk) (drop (suc i) roots)
-unfolding scan_pages
-scan-here comps disk roots i comp in_comps in_disk in_roots =
-    ap (λ cs. scan_pages cs (drop i disk) (drop i roots)) (drop-cons comps i comp in_comps)
-    ∙ ap (λ ls. scan_pages (get_or comps i comp ∷ drop (suc i) comps) ls (drop i roots)) (drop-cons disk i [] in_disk)
-    ∙ ap (λ rs. scan_pages (get_or comps i comp ∷ drop (suc i) comps) (get_or disk i [] ∷ drop (suc i) disk) rs) (drop-cons roots i 0 in_roots)
-
-pub scan-end : (comps : List PrimComp) (disk : List (List PrimRow)) (roots : List ℕ) (i : ℕ) (seen : List ℕ) → length comps ≤ i
-    → seen ++ scan_pages (drop i comps) (drop i disk) (drop i roots) ≡ seen
-unfolding scan_pages
-scan-end comps disk roots i seen h = ap (λ cs. seen ++ scan_pages cs (drop i disk) (drop i roots)) (past_end comps i h) ∙ append-nil seen
 
 -- one list more
 pub lists-more : {X : Type 0} (f : X → List PrimRow) (old : List X) (new : X) (first disk : List (List PrimRow)) (i : ℕ)

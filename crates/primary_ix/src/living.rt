@@ -23,7 +23,8 @@ ghost use Rattle.primary_ix.specs.Components.{AreShown};
 ghost use Rattle.primary_ix.specs.Roots.{AreRoots};
 ghost use Rattle.primary_ix.specs.Pages.{AreAllLent, IsTestedIn};
 ghost use Rattle.primary_ix.specs.Damage.{IsDamagedIn};
-ghost use Rattle.primary_ix.specs.Scans.{all_keys, scan_pages};
+ghost use Rattle.primary_ix.specs.AllPages.{all_pages};
+ghost use Rattle.primary_ix.specs.Scans.{all_keys};
 ghost use Rattle.primary_ix.specs.Wanted.{wanted_rows};
 ghost use Rattle.primary_ix.specs.Records.{table_rows};
 
@@ -85,7 +86,7 @@ fn scan_all<P: Pages>(
     ensures asked { (seen : List ℕ) × Went (P.lent pages.old) (P.asked pages.old pages.new) result seen
         × OnOk result (WhereTold (P.contents pages.old) (λ contents. All (IsTestedIn comps.now contents) seen))
         × ((disk : List (List PrimRow)) (roots : List ℕ) → AreShown (P.contents pages.old) comps.now disk → AreRoots comps.now roots
-        → GoesBy result seen (scan_pages comps.now disk roots)) }
+        → GoesBy result seen (all_pages comps.now roots)) }
 {
     for comp in comps {
         match scan_whole(alloc, pages, comp) {
@@ -153,7 +154,7 @@ pub fn living_rows<P: Pages>(
     ensures asked { (seen : List ℕ) × Went (P.lent pages.old) (P.asked pages.old pages.new) result seen
         × OnOk result (WhereTold (P.contents pages.old) (λ contents. All (IsTestedIn comps.now contents) seen))
         × ((disk : List (List PrimRow)) (roots : List ℕ) → AreShown (P.contents pages.old) comps.now disk → AreRoots comps.now roots
-        → GoesBy result seen (scan_pages comps.now disk roots)) }
+        → GoesBy result seen (all_pages comps.now roots)) }
 {
     let Ok(mut lists) = in_memory(alloc, active, frozen) else {
         return Err(PageFault::OutOfMemory);

@@ -14,9 +14,9 @@ use Rattle.wal_log.specs.State.{newest, turn_calls}
 use Rattle.wal_log.specs.declared.log.Log.{Log}
 use Rattle.wal_log.specs.declared.places.TheConstants.{RECORD_BYTES}
 use Rattle.comp_dir.specs.Resting.{install_calls}
+use Rattle.primary_ix.specs.AllPages.{all_pages}
 use Rattle.primary_ix.specs.Roots.{AreRoots}
 use Rattle.primary_ix.specs.Lookups.{view_pages}
-use Rattle.primary_ix.specs.Scans.{scan_pages}
 use Rattle.primary_ix.specs.declared.rows.PrimRow.{PrimRow}
 use Rattle.build_job.specs.Jobs.{Job, described}
 use Rattle.store_machine.specs.Machine.{is_logged, Machine, after_event}
@@ -37,9 +37,9 @@ Way = (disk : List (List PrimRow)) → (roots : List ℕ) → List ℕ
 abbrev pub way_to : (key : ℕ) → Lists → Way
 way_to key l disk roots = view_pages key l.active l.frozen (trees_of l.components) disk roots
 
--- to all rows: all pages that a scan of each component visits, the newest first
+-- to all rows: all pages of each component, the newest first
 abbrev pub way_to_all : Lists → Way
-way_to_all l disk roots = scan_pages (trees_of l.components) disk roots
+way_to_all l disk roots = all_pages (trees_of l.components) roots
 
 -- which pages of a way were read: all, or the first few; where a page was damaged, up to that one; after a fault the read of the next
 -- one failed

@@ -1,6 +1,6 @@
 use Rattle.std.proofs.Common.{rules, ◌∙◌, ap, [], Ok}
 use Rattle.device_pages.specs.Asked.{seen}
-use Rattle.primary_ix.specs.Scans.{scan_pages}
+use Rattle.primary_ix.specs.AllPages.{all_pages}
 use Rattle.kept_state.proofs.Lent.{shown-there, roots-there, tested-there, goes-as}
 use Rattle.kept_state.proofs.Went.{only-read, read-none, read-lent}
 use Rattle.kept_state.proofs.reading.read_rows.Goals as goal
@@ -25,7 +25,7 @@ returns-clause-asked g c =
           (record { asked_for = asked.1.asked_for.2; are_lent = asked.1.are_lent; stops = asked.1.stops }),
       tested-there _ _ lends _ _ begins _ _ are c.living_rows.result asked.0 asked.2,
       λ disk roots shown at.
-          goes-as c.living_rows.result asked.0 _ _ (ap (λ comps. scan_pages comps disk roots) are)
+          goes-as c.living_rows.result asked.0 _ _ (ap (λ comps. all_pages comps roots) are)
           (asked.3 disk roots (shown-there _ _ lends _ _ begins _ _ are disk shown) (roots-there _ _ lends _ _ begins _ _ are roots at)),
     )
 

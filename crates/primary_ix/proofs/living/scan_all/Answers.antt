@@ -11,7 +11,8 @@ use Rattle.primary_ix.specs.Components.{AreShown}
 use Rattle.primary_ix.specs.Pages.{IsTestedIn}
 use Rattle.primary_ix.proofs.Joined.{went-join, asked-join, lent-join, left-join, whole-join}
 use Rattle.primary_ix.proofs.Passed.{tested_in}
-use Rattle.primary_ix.proofs.Whole.{scan-here, scan-end, lists-more}
+use Rattle.primary_ix.proofs.Everything.{all-here, all-end}
+use Rattle.primary_ix.proofs.Whole.{lists-more}
 use Rattle.primary_ix.proofs.living.scan_all.Goals as goal
 
 -- what stands for a component outside the list
@@ -47,12 +48,10 @@ returns-in-Err-push-clause-asked g c =
       },
       tt,
       λ disk roots shown at.
-          let now = subst (λ contents. AreShown contents c.args.comps.now disk) (sym inv.same_contents) shown in
-          let in_disk : i < length disk = let count = shown.count in omega arith in
-          let in_roots : i < length roots = let count = at.count in omega arith in (
+          let now = subst (λ contents. AreShown contents c.args.comps.now disk) (sym inv.same_contents) shown in (
             _,
             sym (whole-join inv.seen asked.0 _ _ _ (asked.3 (get_or disk i []) (get_or roots i 0) (now.each i none [] (omega arith)) (at.each i none 0 (omega arith)))
-                (inv.way disk roots shown at ∙ ap (λ t. inv.seen ++ t) (scan-here c.args.comps.now disk roots i none (omega arith) in_disk in_roots))),
+                (inv.way disk roots shown at ∙ ap (λ t. inv.seen ++ t) (all-here _ c.args.comps.now disk roots i none (omega arith) shown at))),
           ),
     )
 
@@ -74,11 +73,9 @@ returns-in-Err-clause-asked g c =
       tt,
       λ disk roots shown at.
           let now = subst (λ contents. AreShown contents c.args.comps.now disk) (sym inv.same_contents) shown in
-          let in_disk : i < length disk = let count = shown.count in omega arith in
-          let in_roots : i < length roots = let count = at.count in omega arith in
           let goes = asked.3 (get_or disk i []) (get_or roots i 0) (now.each i none [] (omega arith)) (at.each i none 0 (omega arith)) in
           left-join inv.seen asked.0 _ _ _ goes.0 goes.1
-          (inv.way disk roots shown at ∙ ap (λ t. inv.seen ++ t) (scan-here c.args.comps.now disk roots i none (omega arith) in_disk in_roots)),
+          (inv.way disk roots shown at ∙ ap (λ t. inv.seen ++ t) (all-here _ c.args.comps.now disk roots i none (omega arith) shown at)),
     )
 
 pub loop-comp-preserved : goal.loop-comp-preserved
@@ -109,10 +106,8 @@ loop-comp-preserved g c =
           (inv.told disk shown) (c.in-Ok.ensures.rows (get_or disk i []) (now.each i none [] (omega arith))) in_disk;
       way = λ disk roots shown at.
           let now = subst (λ contents. AreShown contents c.args.comps.now disk) (sym inv.same_contents) shown in
-          let in_disk : i < length disk = let count = shown.count in omega arith in
-          let in_roots : i < length roots = let count = at.count in omega arith in
           whole-join inv.seen asked.0 _ _ _ (asked.3 (get_or disk i []) (get_or roots i 0) (now.each i none [] (omega arith)) (at.each i none 0 (omega arith)))
-          (inv.way disk roots shown at ∙ ap (λ t. inv.seen ++ t) (scan-here c.args.comps.now disk roots i none (omega arith) in_disk in_roots));
+          (inv.way disk roots shown at ∙ ap (λ t. inv.seen ++ t) (all-here _ c.args.comps.now disk roots i none (omega arith) shown at));
     })
 
 pub returns-clause-asked : goal.returns-clause-asked
@@ -121,5 +116,5 @@ returns-clause-asked g c =
       inv.seen,
       record { asked_for = inv.asked; are_lent = inv.are_lent; stops = tt },
       inv.tested,
-      λ disk roots shown at. sym (inv.way disk roots shown at ∙ scan-end c.args.comps.now disk roots c.loop-comp.comp-index inv.seen (omega arith)),
+      λ disk roots shown at. sym (inv.way disk roots shown at ∙ all-end c.args.comps.now roots c.loop-comp.comp-index inv.seen (omega arith)),
     )

@@ -8,7 +8,7 @@ use Rattle.primary_ix.specs.Reading.{prim_reading}
 use Rattle.primary_ix.specs.Components.{AreShown}
 use Rattle.primary_ix.specs.Roots.{AreRoots}
 use Rattle.primary_ix.specs.Pages.{IsTestedIn}
-use Rattle.primary_ix.specs.Scans.{scan_pages}
+use Rattle.primary_ix.specs.AllPages.{all_pages}
 use Rattle.primary_ix.proofs.living.scan_all.Given as goal
 
 abbrev pub invariant-loop-comp : goal.invariant-loop-comp
@@ -24,5 +24,5 @@ invariant-loop-comp g l = record {
   told : (disk : List (List PrimRow)) → AreShown (g.P.Pages.contents l.initial.pages) l.comps disk
       → map (λ list. list.items) l.lists.items ≡ map (λ list. list.items) l.initial.lists.items ++ take l.comp-index disk;
   way : (disk : List (List PrimRow)) (roots : List ℕ) → AreShown (g.P.Pages.contents l.initial.pages) l.comps disk → AreRoots l.comps roots
-      → scan_pages l.comps disk roots ≡ seen ++ scan_pages (drop l.comp-index l.comps) (drop l.comp-index disk) (drop l.comp-index roots);
+      → all_pages l.comps roots ≡ seen ++ all_pages (drop l.comp-index l.comps) (drop l.comp-index roots);
 }
