@@ -15,14 +15,16 @@ use Rattle.tree_shape.specs.Laws.Covers.{span-pos}
 use Rattle.tree_shape.specs.Laws.Places.{child_has_row}
 use Rattle.btree_image.specs.Rows.{IsStored, Ascends}
 use Rattle.btree_image.specs.Image.{shape_of, IsList}
-use Rattle.btree_image.specs.Pages.{page_number, IsShown}
+use Rattle.btree_image.specs.Pages.{page_number}
+use Rattle.btree_image.specs.Shown.{IsShown}
 use Rattle.btree_image.specs.TreePages.{level_pages, tree_pages}
 use Rattle.btree_image.specs.Visited.{begins_before, reaches_row, is_met, met_at, met_below, visited_pages}
 use Rattle.primary_ix.specs.declared.component.PrimComp.{PrimComp}
 use Rattle.primary_ix.specs.declared.rows.PrimRow.{PrimRow}
 use Rattle.primary_ix.specs.Rows.{prim_layout}
 use Rattle.primary_ix.specs.AllPages.{all_pages}
-use Rattle.primary_ix.specs.Components.{AreShown, AreRoots}
+use Rattle.primary_ix.specs.Components.{AreShown}
+use Rattle.primary_ix.specs.Roots.{AreRoots}
 use Rattle.primary_ix.specs.Scans.{all_keys}
 use Rattle.primary_ix.proofs.Passed.{past_end}
 use Rattle.primary_ix.proofs.Whole.{key_fits, up_to}
