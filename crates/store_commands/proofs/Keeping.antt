@@ -123,7 +123,7 @@ keeps-then a b c owner result one other = record {
 
 -- the word of a refusal that ended upkeep
 flush-refused : (refusal : Refusal) (word : Why) (es : List Event) → word_of refusal ≡ Some word → own es ≡ [] → EndsWith refusal es → IsRefusedFlush word es
-flush-refused refusal word es is none ends = record { none = none; before = ends.before; last = ends.last; are = ends.are; refused_is = record { refusal = refusal; is = ends.refused; word_is = is } }
+flush-refused refusal word es is none ends = record { none = none; before = ends.before; last = ends.last; are = ends.are; refused_is = ap words_of ends.refused ∙ ap option_to_list is }
 
 -- upkeep that was refused before a write was made again
 pub again-refused : (a b : StoreState) (owner : ℕ) (op : LogOp) (refusal : Refusal) (word : Why) (result : Result Wrote Why) → KeepsUp a b owner (Err refusal) → word_of refusal ≡ Some word → result ≡ Err word → WritesAgain a b owner op result

@@ -69,12 +69,6 @@ words_of (Some refusal) = option_to_list (word_of refusal)
 abbrev pub words : List Event → List Why
 words es = flat_map (λ e. words_of (refusal_of e.action)) es
 
--- an event was refused with this word
-pub record IsRefusedWith (word : Why) (a : Action) : Type 0 where
-  pub refusal : Refusal
-  pub is : refusal_of a ≡ Some refusal
-  pub word_is : word_of refusal ≡ Some word
-
 -- what a write replies, by what stood at its key
 abbrev pub wrote_reply : LogOp → Option (Point × List ℕ) → WriteReply
 wrote_reply (Put row) old = put_reply (option_map place_in old)
@@ -131,13 +125,13 @@ pub record IsFlush (es : List Event) : Type 0 where
   pub is_told : Contains (first ∷ later) told
   pub placed : first.lsn ≤ told.placed
 
--- upkeep alone, whose last event was refused
+-- upkeep alone, whose last event was refused with this word
 pub record IsRefusedFlush (word : Why) (es : List Event) : Type 0 where
   pub none : own es ≡ []
   pub before : List Event
   pub last : Event
   pub are : es ≡ before ++ last ∷ []
-  pub refused_is : IsRefusedWith word last.action
+  pub refused_is : words_of (refusal_of last.action) ≡ word ∷ []
 
 -- The command is a write that is to be made again after some upkeep, and the last event, a step of this upkeep, was refused. So
 -- the write was not made.

@@ -2,7 +2,7 @@
 use Rattle.std.proofs.Common.{◌≡◌, inl, inr, ℕ, zero, suc, ◌+◌, ◌-◌, ◌^◌, ◌<◌, ◌≤◌, Bool, true, false, List, [], ◌∷◌, ◌++◌, map, length, refl, sym, ◌∙◌, ap, subst, arith, append_assoc, append-nil, Option, Some, None, is_some, Ok, Err, if◌then◌else◌}
 use Rattle.std.proofs.lemmas.Bool.Decides.{nat_tests}
 use Rattle.std.proofs.lemmas.Option.{same_Some}
-use Rattle.std.specs.Option.{option_map}
+use Rattle.std.specs.Option.{option_map, option_to_list}
 use Rattle.std.specs.FinMap as finite
 use Rattle.dev_model.specs.Counts.{next_count}
 use Rattle.geo_base.specs.Corners.{Corners}
@@ -22,7 +22,7 @@ use Rattle.store_machine.specs.Outcomes.{Group, logged_by, logged_groups}
 use Rattle.store_machine.specs.Machine.{Machine, does, after_logged, after_event, after_all, group_of}
 use Rattle.store_machine.specs.Needs.{Needs, NeedsWrite, RefusesStep, place_in}
 use Rattle.store_machine.specs.Runs.{IsRun}
-use Rattle.store_machine.specs.Commands.{is_upkeep, own, word_of, refusal_of, words_of, words, IsRefusedWith, IsRefusedFlush, wrote_reply, write_outcome, get_outcome, region_outcome, IsCall, Does, DoesAll, stopped_group}
+use Rattle.store_machine.specs.Commands.{is_upkeep, own, word_of, refusal_of, words_of, words, IsRefusedFlush, wrote_reply, write_outcome, get_outcome, region_outcome, IsCall, Does, DoesAll, stopped_group}
 use Rattle.store_machine.specs.Laws.Steps.{after_all-append}
 use Rattle.store_machine.specs.declared.events.Wrote.{Wrote}
 use Rattle.store_machine.specs.declared.events.Refusal.{Refusal}
@@ -282,11 +282,26 @@ write_may w word (suc (suc zero), below, is) = (2, omega arith, is)
 write_may w word (suc (suc (suc zero)), below, is) = (4, omega arith, is)
 write_may w word (suc (suc (suc (suc k))), below, is) = absurd (omega (arith, below))
 
+-- one word is that of the refusal that was answered
+record IsWordOf (found : Option Refusal) (word : Why) : Type 0 where
+  refusal : Refusal
+  is : found ≡ Some refusal
+  word_is : word_of refusal ≡ Some word
+
+word_from : (found : Option Refusal) (word : Why) → words_of found ≡ word ∷ [] → IsWordOf found word
+word_from None word one = absurd (let no : ◌≡◌ {A = List Why} [] (word ∷ []) = one in cc)
+word_from (Some refusal) word one = record { refusal = refusal; is = refl; word_is = by_word (word_of refusal) one }
+  where
+    by_word : (given : Option Why) → option_to_list given ≡ word ∷ [] → given ≡ Some word
+    by_word None one = absurd (let no : ◌≡◌ {A = List Why} [] (word ∷ []) = one in cc)
+    by_word (Some given) one = ap (λ (w : Why). Some w) (let same : given ≡ word = cc in same)
+
 -- the refusal of the last event, of upkeep alone
-last_may : (known : Bool) (m : Machine) (before : List Event) (last : Event) (word : Why) → IsRun known m (before ++ last ∷ []) → own (before ++ last ∷ []) ≡ [] → IsRefusedWith word last.action → MayRefuse flush word
+last_may : (known : Bool) (m : Machine) (before : List Event) (last : Event) (word : Why) → IsRun known m (before ++ last ∷ []) → own (before ++ last ∷ []) ≡ [] → words_of (refusal_of last.action) ≡ word ∷ [] → MayRefuse flush word
 last_may known m before last word run none refused_is =
     let rest : IsRun known (after_all m before) (last ∷ []) = IsRun-second known m before (last ∷ []) run in
-    refused_upkeep known (after_all m before) last.action refused_is.refusal word rest.0.needs (one-upkeep before last [] none) refused_is.is refused_is.word_is
+    let refused : IsWordOf (refusal_of last.action) word = word_from (refusal_of last.action) word refused_is in
+    refused_upkeep known (after_all m before) last.action refused.refusal word rest.0.needs (one-upkeep before last [] none) refused.is refused.word_is
 
 refused_flush : (known : Bool) (m : Machine) (word : Why) (es : List Event) → IsRun known m es → IsRefusedFlush word es → MayRefuse flush word
 refused_flush known m word es run is = last_may known m is.before is.last word (subst (IsRun known m) is.are run) (ap own (sym is.are) ∙ is.none) is.refused_is
