@@ -183,12 +183,7 @@ fn run_fresh<R: Source, D: Device>(
 }
 
 // Does a task that there is.
-fn run_one<R: Source, D: Device>(
-    alloc: Global,
-    task: Task,
-    source: &mut R,
-    device: D,
-) -> Run<D>
+fn run_one<R: Source, D: Device>(alloc: Global, task: Task, source: &mut R, device: D) -> Run<D>
     requires least { LEAST_PAGES ≤ D.pages device }
     requires most { D.pages device ≤ MOST_PAGES }
     ensures cause { Cause (Some (task_as task)) (R.fault_count source.old) (R.fault_count source.new) (R.left source.old) (device_of D.pages D.clock D.fault_count D.story device) (device_of D.pages D.clock D.fault_count D.story result.device) result.acks.items (ending_of result.ending) }

@@ -101,9 +101,8 @@ fn own_status(ending: &Ending) -> u8
         Ending::BadWords => 1,
         Ending::SourceFault => 3,
         Ending::BadLine(_) | Ending::TooLong => 2,
-        Ending::NotOpened(
-            OpenFault::NotFormatted | OpenFault::BadSlot(_) | OpenFault::BadLog(_),
-        ) => 6,
+        Ending::NotOpened(OpenFault::NotFormatted | OpenFault::BadSlot(_) | OpenFault::BadLog(_)) =>
+            6,
         Ending::FormatFailed | Ending::NotOpened(OpenFault::Fault) => 5,
         Ending::NoMemory | Ending::NotOpened(OpenFault::OutOfMemory) => 8,
         Ending::Formatted(_) => 0,
