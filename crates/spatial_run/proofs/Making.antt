@@ -209,7 +209,7 @@ module _ (device new : DeviceState) (acks : List ℕ) (s : Phases Command) (r : 
         subst (λ (t : Table). HoldsTable new.pages t now) table_is
         (subst (λ (u : Story). HoldsTable new.pages (last table disk).table u) (same_Some _ _ (sym now_told ∙ is))
         (subst (λ (p : ℕ). HoldsTable p (last table disk).table tells.now) ended_pages
-        (rests-holds ran.ended.device.pages ran.ended.log (last table disk).table tells.now (tells.kept going).rests)))
+        (rests-holds ran.ended.device.pages ran.ended.log (last table disk).table tells.now (tells.kept going).held.rests)))
 
     ran-from : RanFrom table before unfinished new acks s r f
     ran-from = record {

@@ -153,7 +153,7 @@ wrote-tells o mid now op r had log lists ack mm all has t =
     let acked : AreUpTo (clock_of u) mm.acks = AreUpTo-later (clock_of t.now) (clock_of u) mm.acks (omega (arith, clock_of-after t.now plan)) t.acked in
     let done : EachMoment (clock_of t.opening) u (Keeps pages o.table (mm.logged ++ group ∷ []) (mm.acks ++ ack ∷ [])) =
     acknowledged pages (clock_of t.opening) o.table (mm.logged ++ group ∷ []) mm.acks ack u (omega (arith, has.counted, length_push mm.logged group)) acked (all.ack_is ∙ clock) tried
-    (λ image is. subst (λ (x : Table). Recovers pages x image) (sym behind) (rest-image pages log new_table u image next.rests is)) in
+    (λ image is. subst (λ (x : Table). Recovers pages x image) (sym behind) (rest-image pages log new_table u image next.held.rests is)) in
     subst (λ (p : ℕ). Tells o (wrote_state mid (record now { pages = p }) log lists ack) (wrote_machine mm now op had ack (ok_calls mid.device.clock plan))) (sym all.logs.pages)
     (record {
       opening = t.opening;
