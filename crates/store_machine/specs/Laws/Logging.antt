@@ -168,7 +168,7 @@ wrote-tells o mid now op r had log lists ack mm all has t =
       kept = λ _. next;
       legible = subst (λ (l : Lists). IsLegible new_table mm.disk l u) (sym all.lists_are)
           (legible-added mm.table mm.disk mid.lists u (write_of op) had (all.logs.legible mm.table mm.disk t.now t.told t.legible u told));
-      rows = next.rows_are;
+      rows = next.held.rows_are;
       acked = AreUpTo-push (clock_of u) ack mm.acks acked (omega (arith, all.ack_is, clock));
       survives = subst (λ (x : Option Group). EachMoment (clock_of t.opening) u (Keeps pages o.table (attempted (mm.logged ++ group ∷ []) x) (mm.acks ++ ack ∷ []))) (sym none) done;
     })
