@@ -8,3 +8,4 @@ pub mod Since
 pub mod Faults
 pub mod Unfinished
 pub mod Reopened
+pub mod Leaving

@@ -1,10 +1,15 @@
--- What a crash leaves, as a device that begins with it.
-use Rattle.std.specs.Prelude.{ℕ, ◌≤◌, List, [], take}
+-- What a crash leaves, as a device that begins with it. No public contract of the program needs this file.
+use Rattle.std.specs.Prelude.{◌≡◌, ◌⊎◌, ℕ, ◌≤◌, List, [], take, Option, Some, None, IfSome}
+use Rattle.std.specs.FinMap.{empty}
 use Rattle.dev_model.specs.Story.{Bytes, Story}
+use Rattle.dev_model.specs.Moments.{LeavesOnly}
 use Rattle.table_model.specs.Table.{Table}
-use Rattle.store_machine.specs.Crash.{acked_by}
+use Rattle.device_format.specs.Formatting.{IsUnformatted}
+use Rattle.store_machine.specs.Crash.{acked_by, attempted}
 use Rattle.store_machine.specs.Devices.{HoldsTable}
-use Rattle.store_machine.specs.Outcomes.{Group, after_groups}
+use Rattle.store_machine.specs.Outcomes.{Group, after_groups, logged_groups}
+use Rattle.spatial_run.specs.Endings.{Ending, ran}
+use Rattle.spatial_run.specs.OnDevice.{LeavesOver, HasFailedWrite}
 
 -- a device that begins with these bytes
 abbrev pub begun_with : Bytes → Story
@@ -13,3 +18,36 @@ begun_with image = record { start = image; past = [] }
 -- A device that begins with the image holds the table after the first of these groups, with all that were acknowledged at the moment.
 abbrev pub HoldsFirst : (pages : ℕ) → Table → List Group → (acks : List ℕ) → (moment : ℕ) → Bytes → Type 0
 HoldsFirst pages table groups acks moment image = (count : ℕ) × (acked_by moment acks ≤ count) × HoldsTable pages (after_groups table (take count groups)) (begun_with image)
+
+-- A device that begins with the image holds the table or the empty one, or an opening finds no store there.
+abbrev pub HoldsOrEmpty : (pages : ℕ) → Table → Bytes → Type 0
+HoldsOrEmpty pages table image = HoldsTable pages table (begun_with image) ⊎ (IsUnformatted image ⊎ HoldsTable pages empty (begun_with image))
+
+-- what an ending says was logged
+abbrev pub logged_in : Ending → List Group
+logged_in (ran s r f) = logged_groups s.setup r.setup
+logged_in other = []
+
+-- only a run may have a write that was not finished, and that is one that it says failed
+abbrev pub MayBeUnfinished : Ending → Option Group → Type 0
+MayBeUnfinished (ran s r f) unfinished = IfSome unfinished (HasFailedWrite s.setup r.setup)
+MayBeUnfinished other unfinished = unfinished ≡ None
+
+-- Each crash since then leaves the table after the first of the writes that the ending says were logged, or one more that was not
+-- finished, with each that was acknowledged by then.
+pub record LeavesWritten (ending : Ending) (pages : ℕ) (table : Table) (before : Story) (now : Option Story) (acks : List ℕ) : Type 0 where
+  pub unfinished : Option Group
+  pub may : MayBeUnfinished ending unfinished
+  pub leaves : LeavesOver before now (HoldsFirst pages table (attempted (logged_in ending) unfinished) acks)
+
+-- The device was formatted, and from there on each crash leaves the empty table after the first of the writes.
+pub record LeavesFormatted (ending : Ending) (pages : ℕ) (table : Table) (before : Story) (now : Option Story) (acks : List ℕ) : Type 0 where
+  pub formatted : Story
+  pub on_the_way : LeavesOnly before (Some formatted) (HoldsOrEmpty pages table)
+  pub since : LeavesWritten ending pages empty formatted now acks
+
+-- What a call leaves of a table: it formatted nothing, or it did that alone, or first.
+abbrev pub Leaves : Ending → (pages : ℕ) → Table → (before : Story) → (now : Option Story) → (acks : List ℕ) → Type 0
+Leaves ending pages table before now acks =
+    LeavesWritten ending pages table before now acks
+    ⊎ (LeavesOnly before now (HoldsOrEmpty pages table) ⊎ LeavesFormatted ending pages table before now acks)

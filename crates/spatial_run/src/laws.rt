@@ -1,5 +1,5 @@
 // Laws over calls of the program, each as the contract of a function that does nothing.
-ghost use Rattle.std.specs.Prelude.{◌⊎◌, ℕ, List, Option, Result};
+ghost use Rattle.std.specs.Prelude.{◌⊎◌, ℕ, List, Option, Some, Result};
 ghost use Rattle.std.specs.FinMap.{empty};
 ghost use Rattle.dev_model.specs.Story.{Bytes, Story, WhereTold};
 ghost use Rattle.dev_model.specs.Moments.{LeavesOnly};
@@ -13,8 +13,10 @@ ghost use Rattle.device_format.specs.Formatting.{IsEmptyStore, IsUnformatted};
 ghost use Rattle.store_machine.specs.Crash.{attempted};
 ghost use Rattle.store_machine.specs.Devices.{DeviceState, HoldsTable};
 ghost use Rattle.store_machine.specs.Outcomes.{Group, logged_groups};
-ghost use Rattle.spatial_run.specs.OnDevice.{LeavesOver, Formatting, RanFrom};
-ghost use Rattle.spatial_run.specs.Reopening.{begun_with, HoldsFirst};
+ghost use Rattle.spatial_run.specs.Tasks.{Task, serial};
+ghost use Rattle.spatial_run.specs.Endings.{Edges, Ends};
+ghost use Rattle.spatial_run.specs.OnDevice.{LeavesOver, Formatting, RanFrom, RanOn};
+ghost use Rattle.spatial_run.specs.Reopening.{begun_with, HoldsFirst, Leaves, LeavesWritten};
 ghost use Rattle.spatial_run.specs.declared.outcomes.Refusals.{Refusals};
 
 /// A law: a crash at any moment of a run on a device that held a table leaves an image that holds the table after the first of
@@ -25,6 +27,16 @@ pub fn a_crash_leaves_a_store()
         LeavesOver before new.story (HoldsFirst new.pages table (attempted (logged_groups s.setup r.setup) unfinished) acks) }
     ensures formatted { (indexes : ℕ) (old new : DeviceState) (result : Result (Unit {0}) Failed) (table : Table) → Formatting indexes old new result →
         WhereTold old.story (λ s. HoldsTable old.pages table s → LeavesOnly s new.story (λ image. HoldsTable old.pages table (begun_with image) ⊎ (IsUnformatted image ⊎ HoldsTable old.pages empty (begun_with image)))) }
+{}
+
+/// A law: whatever the task was and however the call ended, a crash at any moment since it began, on a device that held a table,
+/// leaves what `Leaves` says of that table, and of the word serial the table after the first of the writes. The next call may begin
+/// with it.
+pub fn a_crash_in_any_call_leaves_a_store()
+    ensures served { (edges : Edges) (status : ℕ) (acks : List ℕ) (r : RunRecord) (table : Table) (end : Ends Formatting RanOn (Some serial) edges status acks r) →
+        WhereTold edges.device_old.story (λ s. HoldsTable edges.device_old.pages table s → LeavesWritten end.ending edges.device_old.pages table s edges.device_new.story acks) }
+    ensures any_task { (task : Option Task) (edges : Edges) (status : ℕ) (acks : List ℕ) (r : RunRecord) (table : Table) (end : Ends Formatting RanOn task edges status acks r) →
+        WhereTold edges.device_old.story (λ s. HoldsTable edges.device_old.pages table s → Leaves end.ending edges.device_old.pages table s edges.device_new.story acks) }
 {}
 
 /// A law: an image that recovers to a table is a device that holds it, so that the next call may begin with what a crash left.
