@@ -19,7 +19,7 @@ use Rattle.spatial_run.specs.declared.outcomes.Refusals.{Refusals}
 use Rattle.spatial_run.specs.Tasks.{Task, format, serial, fresh}
 use Rattle.spatial_run.specs.Endings.{Ending, bad_words, source_fault, bad_script, no_memory, format_failed, formatted, not_opened, ran, IsCause, IsToFormat, Prepared, Ends, Edges}
 use Rattle.spatial_run.specs.OnDevice.{LeavesOver, Formatting, OnlyOpened, RanOn}
-use Rattle.spatial_run.specs.Reopening.{begun_with, HoldsFirst, HoldsOrEmpty, logged_in, MayBeUnfinished, LeavesWritten, LeavesFormatted, Leaves}
+use Rattle.spatial_run.specs.Reopening.{begun_with, HoldsFirst, HoldsOrEmpty, logged_in, MayBeUnfinished, LeavesWritten, LeavesFormatted, LeavesPrepared, Leaves}
 use Rattle.spatial_run.proofs.Reopened.{holds-again, served-again, formatted-again}
 
 -- each image of the present moment holds what the device holds
@@ -67,7 +67,7 @@ after-run pages device new table t acks s r f same on told holds = record {
 formatted-first : (ending : Ending) (indexes : ℕ) (old device new : DeviceState) (table : Table) (s : Story) (acks : List ℕ) → Formatting indexes old device (Ok tt) → old.story ≡ Some s → HoldsTable old.pages table s
     → ((t : Story) → device.story ≡ Some t → HoldsTable old.pages empty t → LeavesWritten ending old.pages empty t new.story acks) → LeavesFormatted ending old.pages table s new.story acks
 formatted-first ending indexes old device new table s acks formatting told holds then_left = record {
-  formatted = after s way.calls;
+  begins = after s way.calls;
   on_the_way = subst (λ (d : Option Story). LeavesOnly s d (HoldsOrEmpty old.pages table)) way.told way;
   since = then_left (after s way.calls) way.told (formatting.empty_table (after s way.calls) way.told);
 }
@@ -77,36 +77,31 @@ formatted-first ending indexes old device new table s acks formatting told holds
 
 -- the device on which a script was to run, and what was done on it
 on-prepared : (task : Option Task) (ending : Ending) (old device new : DeviceState) (table : Table) (s : Story) (acks : List ℕ) → Prepared Formatting RanOn task old device → old.story ≡ Some s → HoldsTable old.pages table s
-    → ((any : Table) (t : Story) → device.pages ≡ old.pages → device.story ≡ Some t → HoldsTable old.pages any t → LeavesWritten ending old.pages any t new.story acks) → Leaves ending old.pages table s new.story acks
+    → ((any : Table) (t : Story) → device.pages ≡ old.pages → device.story ≡ Some t → HoldsTable old.pages any t → LeavesWritten ending old.pages any t new.story acks) → LeavesPrepared task ending old.pages table s new.story acks
 on-prepared None ending old device new table s acks prepared told holds then_left = absurd prepared
 on-prepared (Some (format indexes)) ending old device new table s acks prepared told holds then_left = absurd prepared
 on-prepared (Some serial) ending old device new table s acks prepared told holds then_left =
-    inl (then_left table s (ap (λ (d : DeviceState). d.pages) prepared) (ap (λ (d : DeviceState). d.story) prepared ∙ told) holds)
+    then_left table s (ap (λ (d : DeviceState). d.pages) prepared) (ap (λ (d : DeviceState). d.story) prepared ∙ told) holds
 on-prepared (Some (fresh indexes)) ending old device new table s acks prepared told holds then_left =
-    inr (inr (formatted-first ending indexes old device new table s acks prepared told holds (λ t is again. then_left empty t prepared.same_pages is again)))
-
--- a format alone
-format-alone : (ending : Ending) (indexes : ℕ) (old new : DeviceState) (result : Result (Unit {0}) Failed) (table : Table) (s : Story) (acks : List ℕ) → Formatting indexes old new result → old.story ≡ Some s → HoldsTable old.pages table s
-    → Leaves ending old.pages table s new.story acks
-format-alone ending indexes old new result table s acks formatting told holds = inr (inl (formatted-again indexes old new result table formatting s told holds))
+    formatted-first ending indexes old device new table s acks prepared told holds (λ t is again. then_left empty t prepared.same_pages is again)
 
 cause-leaves : (task : Option Task) (so sn : ℕ) (left : Option (List ℕ)) (old new : DeviceState) (acks : List ℕ) (ending : Ending) (table : Table) (s : Story) → IsCause Formatting RanOn task so sn left old new acks ending
-    → old.story ≡ Some s → HoldsTable old.pages table s → Leaves ending old.pages table s new.story acks
-cause-leaves task so sn left old new acks bad_words table s cause told holds = inl (untouched bad_words old new table s acks refl refl cause.3 cause.2 told holds)
-cause-leaves task so sn left old new acks source_fault table s cause told holds = inl (untouched source_fault old new table s acks refl refl cause.3 cause.2 told holds)
-cause-leaves task so sn left old new acks (bad_script wrong) table s cause told holds = inl (untouched (bad_script wrong) old new table s acks refl refl cause.4 cause.3 told holds)
+    → old.story ≡ Some s → HoldsTable old.pages table s → Leaves task ending old.pages table s new.story acks
+cause-leaves task so sn left old new acks bad_words table s cause told holds = untouched bad_words old new table s acks refl refl cause.3 cause.2 told holds
+cause-leaves task so sn left old new acks source_fault table s cause told holds = untouched source_fault old new table s acks refl refl cause.3 cause.2 told holds
+cause-leaves task so sn left old new acks (bad_script wrong) table s cause told holds = untouched (bad_script wrong) old new table s acks refl refl cause.4 cause.3 told holds
 cause-leaves task so sn left old new acks no_memory table s (runs, same, none, inl untold) told holds = inl (untouched no_memory old new table s acks refl refl none untold told holds)
 cause-leaves task so sn left old new acks no_memory table s (runs, same, none, inr (script, begun, opened)) told holds =
-    on-prepared task no_memory old begun.device new table s acks begun.prepared told holds (λ any t pages is again. only-read no_memory old.pages begun.device new any t acks refl refl none opened is again)
-cause-leaves task so sn left old new acks format_failed table s (same, none, (indexes, failed, to, formatting)) told holds = format-alone format_failed indexes old new (Err failed) table s acks formatting told holds
-cause-leaves task so sn left old new acks (formatted pages) table s (same, none, is, (indexes, to, formatting)) told holds = format-alone (formatted pages) indexes old new (Ok tt) table s acks formatting told holds
+    inr (on-prepared task no_memory old begun.device new table s acks begun.prepared told holds (λ any t pages is again. only-read no_memory old.pages begun.device new any t acks refl refl none opened is again))
+cause-leaves task so sn left old new acks format_failed table s (same, none, (indexes, failed, to, formatting)) told holds = formatted-again indexes old new (Err failed) table formatting s told holds
+cause-leaves task so sn left old new acks (formatted pages) table s (same, none, is, (indexes, to, formatting)) told holds = formatted-again indexes old new (Ok tt) table formatting s told holds
 cause-leaves task so sn left old new acks (not_opened refusal) table s (same, none, (script, begun, unopened)) told holds =
     on-prepared task (not_opened refusal) old begun.device new table s acks begun.prepared told holds (λ any t pages is again. only-read (not_opened refusal) old.pages begun.device new any t acks refl refl none unopened.reads is again)
 cause-leaves task so sn left old new acks (ran script r f) table s (same, (begun, on)) told holds =
     on-prepared task (ran script r f) old begun.device new table s acks begun.prepared told holds (λ any t pages is again. after-run old.pages begun.device new any t acks script r f pages on is again)
 
 pub call-leaves : (task : Option Task) (edges : Edges) (status : ℕ) (acks : List ℕ) (r : RunRecord) (table : Table) (end : Ends Formatting RanOn task edges status acks r)
-    → WhereTold edges.device_old.story (λ s. HoldsTable edges.device_old.pages table s → Leaves end.ending edges.device_old.pages table s edges.device_new.story acks)
+    → WhereTold edges.device_old.story (λ s. HoldsTable edges.device_old.pages table s → Leaves task end.ending edges.device_old.pages table s edges.device_new.story acks)
 call-leaves task edges status acks r table end s told holds =
     cause-leaves task edges.source_old edges.source_new edges.left edges.device_old edges.device_new acks end.ending table s end.cause told holds
 

@@ -8,7 +8,8 @@ use Rattle.device_format.specs.Formatting.{IsUnformatted}
 use Rattle.store_machine.specs.Crash.{acked_by, attempted}
 use Rattle.store_machine.specs.Devices.{HoldsTable}
 use Rattle.store_machine.specs.Outcomes.{Group, after_groups, logged_groups}
-use Rattle.spatial_run.specs.Endings.{Ending, ran}
+use Rattle.spatial_run.specs.Tasks.{Task, serial, fresh}
+use Rattle.spatial_run.specs.Endings.{Ending, bad_words, source_fault, bad_script, no_memory, format_failed, formatted, ran}
 use Rattle.spatial_run.specs.OnDevice.{LeavesOver, HasFailedWrite}
 
 -- a device that begins with these bytes
@@ -42,12 +43,22 @@ pub record LeavesWritten (ending : Ending) (pages : ℕ) (table : Table) (before
 
 -- The device was formatted, and from there on each crash leaves the empty table after the first of the writes.
 pub record LeavesFormatted (ending : Ending) (pages : ℕ) (table : Table) (before : Story) (now : Option Story) (acks : List ℕ) : Type 0 where
-  pub formatted : Story
-  pub on_the_way : LeavesOnly before (Some formatted) (HoldsOrEmpty pages table)
-  pub since : LeavesWritten ending pages empty formatted now acks
+  pub begins : Story
+  pub on_the_way : LeavesOnly before (Some begins) (HoldsOrEmpty pages table)
+  pub since : LeavesWritten ending pages empty begins now acks
 
--- What a call leaves of a table: it formatted nothing, or it did that alone, or first.
-abbrev pub Leaves : Ending → (pages : ℕ) → Table → (before : Story) → (now : Option Story) → (acks : List ℕ) → Type 0
-Leaves ending pages table before now acks =
-    LeavesWritten ending pages table before now acks
-    ⊎ (LeavesOnly before now (HoldsOrEmpty pages table) ⊎ LeavesFormatted ending pages table before now acks)
+-- what a call leaves whose script was to run: of the store that was there, or of one that was formatted first
+abbrev pub LeavesPrepared : Option Task → Ending → (pages : ℕ) → Table → (before : Story) → (now : Option Story) → (acks : List ℕ) → Type 0
+LeavesPrepared (Some serial) ending pages table before now acks = LeavesWritten ending pages table before now acks
+LeavesPrepared (Some (fresh indexes)) ending pages table before now acks = LeavesFormatted ending pages table before now acks
+LeavesPrepared other ending pages table before now acks = ⊥
+
+-- What a call leaves of a table. Memory may be refused before anything was done on the device, or behind a format.
+abbrev pub Leaves : Option Task → Ending → (pages : ℕ) → Table → (before : Story) → (now : Option Story) → (acks : List ℕ) → Type 0
+Leaves task bad_words pages table before now acks = LeavesWritten bad_words pages table before now acks
+Leaves task source_fault pages table before now acks = LeavesWritten source_fault pages table before now acks
+Leaves task (bad_script wrong) pages table before now acks = LeavesWritten (bad_script wrong) pages table before now acks
+Leaves task no_memory pages table before now acks = LeavesWritten no_memory pages table before now acks ⊎ LeavesPrepared task no_memory pages table before now acks
+Leaves task format_failed pages table before now acks = LeavesOnly before now (HoldsOrEmpty pages table)
+Leaves task (formatted size) pages table before now acks = LeavesOnly before now (HoldsOrEmpty pages table)
+Leaves task other pages table before now acks = LeavesPrepared task other pages table before now acks

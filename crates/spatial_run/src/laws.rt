@@ -36,7 +36,7 @@ pub fn a_crash_in_any_call_leaves_a_store()
     ensures served { (edges : Edges) (status : ℕ) (acks : List ℕ) (r : RunRecord) (table : Table) (end : Ends Formatting RanOn (Some serial) edges status acks r) →
         WhereTold edges.device_old.story (λ s. HoldsTable edges.device_old.pages table s → LeavesWritten end.ending edges.device_old.pages table s edges.device_new.story acks) }
     ensures any_task { (task : Option Task) (edges : Edges) (status : ℕ) (acks : List ℕ) (r : RunRecord) (table : Table) (end : Ends Formatting RanOn task edges status acks r) →
-        WhereTold edges.device_old.story (λ s. HoldsTable edges.device_old.pages table s → Leaves end.ending edges.device_old.pages table s edges.device_new.story acks) }
+        WhereTold edges.device_old.story (λ s. HoldsTable edges.device_old.pages table s → Leaves task end.ending edges.device_old.pages table s edges.device_new.story acks) }
 {}
 
 /// A law: an image that recovers to a table is a device that holds it, so that the next call may begin with what a crash left.
