@@ -1,9 +1,8 @@
 -- What a crash in a call leaves, for each way in which the call may have ended.
-use Rattle.std.proofs.Common.{◌≡◌, ◌⊎◌, inl, inr, ℕ, List, [], Option, Some, None, Ok, Err, Result, refl, sym, ◌∙◌, ap, subst, arith}
+use Rattle.std.proofs.Common.{◌≡◌, inl, inr, ℕ, List, [], Option, Some, None, Ok, Err, refl, sym, ◌∙◌, ap, subst, arith}
 use Rattle.std.specs.FinMap.{empty}
-use Rattle.dev_model.specs.Story.{Bytes, Calls, Story, after, bytes_of, IsImageNow, WhereTold}
+use Rattle.dev_model.specs.Story.{Bytes, Story, after, bytes_of, IsImageNow, WhereTold}
 use Rattle.dev_model.specs.Moments.{LeavesOnly}
-use Rattle.dev_model.specs.declared.streams.Failed.{Failed}
 use Rattle.dev_model.specs.Laws.Reads.{LeavesOnly-reads}
 use Rattle.dev_model.specs.Laws.Runs.{LeavesOnly-start, LeavesOnly-weaker}
 use Rattle.image_model.specs.Opening.{IsOpeningRange}

@@ -30,8 +30,8 @@ pub fn a_crash_leaves_a_store()
 {}
 
 /// A law: whatever the task was and however the call ended, a crash at any moment since it began, on a device that held a table,
-/// leaves what `Leaves` says of that table, and of the word serial the table after the first of the writes. The next call may begin
-/// with it.
+/// leaves what `Leaves` says of that table, as a device that begins with it; where the word was serial, always the table after the
+/// first of the writes, with each that was acknowledged by then.
 pub fn a_crash_in_any_call_leaves_a_store()
     ensures served { (edges : Edges) (status : ℕ) (acks : List ℕ) (r : RunRecord) (table : Table) (end : Ends Formatting RanOn (Some serial) edges status acks r) →
         WhereTold edges.device_old.story (λ s. HoldsTable edges.device_old.pages table s → LeavesWritten end.ending edges.device_old.pages table s edges.device_new.story acks) }
