@@ -59,7 +59,7 @@ after-run pages device new table t acks s r f same on told holds = record {
   unfinished = on.unfinished;
   may = on.failed;
   leaves = subst (λ (n : ℕ). LeavesOver t new.story (HoldsFirst n table (attempted (logged_groups s.setup r.setup) on.unfinished) acks)) (on.same_pages ∙ same)
-    (served-again table t on.unfinished new acks s r f (on.from table t told (subst (λ (n : ℕ). HoldsTable n table t) (sym same) holds)));
+      (served-again table t on.unfinished new acks s r f (on.from table t told (subst (λ (n : ℕ). HoldsTable n table t) (sym same) holds)));
 }
 
 -- a device that was formatted, and what was done on it from there on
