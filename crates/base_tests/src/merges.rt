@@ -5,8 +5,9 @@ ghost use Rattle.order_merge.specs.Ascending.{Ascends};
 
 use crate::marks::{Mark, folded};
 use hilbert_key::{compare, value};
-use order_merge::{Entry, OrderedBy, Policy, Rules, merge_newest, prefix_rule};
+use order_merge::{Entry, merge_newest};
 use std::alloc::{AllocError, Global};
+use stored_rules::{OrderedBy, Policy, Rules, prefix_rule};
 
 // A number for each of 48 merges, folded from the entries. The plain program bench/lists/merges.py prints the tables.
 const ALL_KEPT: [u32; 48] = [

@@ -7,8 +7,5 @@ pub mod Fitting
 pub mod Merged
 pub mod Merging
 pub mod Places
-pub mod PointOrder
-pub mod Prefix
-pub mod Ranges
 pub mod Views
 pub mod laws

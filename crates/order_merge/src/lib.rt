@@ -1,12 +1,9 @@
-//! Lists of entries that hide and merge: which entries live, how lists are merged, and which merges are chosen.
+//! Lists of entries that hide and merge: which entries live, and how lists are merged.
 #![tactic(auto)]
 
 mod entry;
 mod laws;
 mod merge;
-mod order;
-mod policy;
-mod rules;
 
 pub use entry::Entry;
 pub use laws::{
@@ -14,6 +11,3 @@ pub use laws::{
     placed_keyed_list_fits, placed_list_fits, rewritten_list_fits,
 };
 pub use merge::merge_newest;
-pub use order::{OrderedBy, Point2, PointOrder};
-pub use policy::{Choice, MOST_COMPONENTS, Policy, prefix_rule};
-pub use rules::Rules;

@@ -1,8 +1,8 @@
 //! Which disk components of an index are merged: a choice that is given from outside, and the usual one.
 
 ghost use Rattle.std.specs.Prelude.{◌≡◌, ◌≤◌, length, position, nat_lt};
-ghost use Rattle.order_merge.specs.Ranges.{IsRange, AnswersRanges};
-ghost use Rattle.order_merge.specs.Prefix.{prefix_range};
+ghost use Rattle.stored_rules.specs.Ranges.{IsRange, AnswersRanges};
+ghost use Rattle.stored_rules.specs.Prefix.{prefix_range};
 
 /// An index has at most so many disk components.
 pub const MOST_COMPONENTS: usize = 16;

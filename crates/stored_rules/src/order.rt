@@ -1,7 +1,7 @@
 //! An order of points that is given from outside.
 
 ghost use Rattle.std.specs.Prelude.{◌≡◌};
-ghost use Rattle.order_merge.specs.PointOrder.{curve_order, AnswersCurveOrder};
+ghost use Rattle.stored_rules.specs.PointOrder.{curve_order, AnswersCurveOrder};
 
 use hilbert_key::Coord;
 use std::cmp::Ordering;

@@ -2,7 +2,7 @@
 use Rattle.std.specs.Prelude.{ℕ, ◌+◌, ◌≤◌, List, length, Option}
 use Rattle.std.specs.Option.{ForSome}
 use Rattle.std.specs.Borrow.{Bor}
-use Rattle.order_merge.specs.declared.policy.TheConstants.{MOST_COMPONENTS}
+use Rattle.stored_rules.specs.declared.policy.TheConstants.{MOST_COMPONENTS}
 
 -- none, or at least two components side by side
 abbrev pub IsRange : ℕ → Option (ℕ × ℕ) → Type 0
