@@ -1,7 +1,8 @@
 // Calls that fail, images that are torn, and a device that tells nothing. Expected bytes are worked out by hand.
 ghost use Rattle.std.specs.Prelude.{◌≡◌, ◌≤◌, IfOk};
 
-use dev_model::{Device, Failed, ImageFault, MemDevice, Torn, write_synced};
+use dev_model::{Device, Failed, write_synced};
+use mem_device::{ImageFault, MemDevice, Torn};
 use std::alloc::{AllocError, Global};
 use std::test::Fail;
 

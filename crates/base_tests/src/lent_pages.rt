@@ -1,8 +1,9 @@
 // Pages of a device in memory, of which two are lent.
 ghost use Rattle.std.specs.Prelude.{◌≡◌, ◌≤◌, [], ◌∷◌, IsTrue, is_ok};
 
-use dev_model::{Device, Failed, MemDevice, Pages};
+use dev_model::{Device, Failed, Pages};
 use device_pages::DevicePages;
+use mem_device::MemDevice;
 use space_map::Extent;
 use std::test::Fail;
 

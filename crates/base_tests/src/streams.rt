@@ -1,6 +1,7 @@
 // Sources and sinks in memory, and those over a reader and a writer that fail in mid-stream.
 
-use dev_model::{Failed, MemSink, MemSource, ReadSource, Sink, Source, WriteSink, send_all};
+use dev_model::{Failed, ReadSource, Sink, Source, WriteSink, send_all};
+use mem_device::{MemSink, MemSource};
 use std::alloc::AllocError;
 use std::io::{Error, ErrorKind, Read, Write};
 

@@ -1,7 +1,1 @@
-pub mod Allowed
-pub mod Images
-pub mod MemoryLemmas
-pub mod Poking
-pub mod RecordLemmas
-pub mod Replay
 pub mod UnderWay

@@ -3,13 +3,9 @@ pub mod Answers
 pub mod Counts
 pub mod DeviceCalls
 pub mod Doing
-pub mod Inside
 pub mod Laws
-pub mod Memory
 pub mod Moments
-pub mod Planned
 pub mod Story
 pub mod StreamCalls
 pub mod Streams
-pub mod TornImages
 pub mod Writes

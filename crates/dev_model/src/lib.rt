@@ -4,21 +4,14 @@
 pub mod calls;
 mod device;
 mod durable;
-mod memory;
-mod memory_streams;
 mod pages;
-mod record;
 mod sending;
 mod std_streams;
 mod streams;
-mod torn;
 
 pub use device::Device;
 pub use durable::write_synced;
-pub use memory::{ImageFault, MemDevice};
-pub use memory_streams::{MemSink, MemSource};
 pub use pages::Pages;
 pub use sending::send_all;
 pub use std_streams::{ReadSource, WriteSink};
 pub use streams::{Failed, Sink, Source};
-pub use torn::Torn;

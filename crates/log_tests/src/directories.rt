@@ -5,8 +5,9 @@ use comp_dir::{
     DirFault, LSN_LIMIT, MOST_LIVE, SLOTS, Slot, chosen, close_gate, install_slot, open_gate,
     read_dir, write_slot,
 };
-use dev_model::{Device, MemDevice, Torn};
+use dev_model::Device;
 use geo_base::IndexSet;
+use mem_device::{MemDevice, Torn};
 use std::alloc::Global;
 use std::test::Fail;
 

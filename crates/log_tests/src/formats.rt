@@ -1,10 +1,11 @@
 // What no proof sees: that the definitions say what was meant. Expected bytes and counts are worked out by hand.
 ghost use Rattle.std.specs.Prelude.{◌≡◌, IfSome};
 
-use dev_model::{Device, MemDevice, Torn};
+use dev_model::Device;
 use device_format::format_dev;
 use geo_base::{IndexSet, Point};
 use image_model::{LOG_PAGES, LOG_START};
+use mem_device::{MemDevice, Torn};
 use std::alloc::Global;
 use std::test::Fail;
 use wal_log::{Log, LogOp, MOST_RECORDS, Record};

@@ -5,8 +5,9 @@ ghost use Rattle.wal_log.specs.Reads.{EndsOnDevice};
 ghost use Rattle.wal_log.specs.Records.{record_bytes, HasOld};
 ghost use Rattle.wal_log.specs.Counted.{IsCounted};
 
-use dev_model::{Device, MemDevice, Torn};
+use dev_model::Device;
 use geo_base::{Note, Point, Row};
+use mem_device::{MemDevice, Torn};
 use std::alloc::Global;
 use std::test::Fail;
 use wal_log::{

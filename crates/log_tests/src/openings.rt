@@ -5,10 +5,11 @@ ghost use Rattle.image_model.specs.declared.places.TheConstants.{LOG_START};
 ghost use Rattle.wal_log.specs.Counted.{IsCounted};
 
 use comp_dir::{SLOTS, Slot};
-use dev_model::{Device, MemDevice};
+use dev_model::Device;
 use device_format::superblock_bytes;
 use geo_base::{IndexSet, Note, Point, Row};
 use image_model::LOG_START;
+use mem_device::MemDevice;
 use std::alloc::Global;
 use std::test::Fail;
 use store_opening::{OpenFault, open_state};

@@ -1,7 +1,8 @@
 // A device at rest, and the call of the program that is to be made on it.
 
 use crate::scripts::ScriptText;
-use dev_model::{Device, MemDevice, MemSink, MemSource};
+use dev_model::Device;
+use mem_device::{MemDevice, MemSink, MemSource};
 use script_lang::{ScriptFault, read_script};
 use space_map::{LEAST_PAGES, MOST_PAGES};
 use spatial_run::run_top;

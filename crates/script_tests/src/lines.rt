@@ -1,7 +1,7 @@
 // Numbers, commands and printed lines. Whole scripts are read as cases of the program that makes calls in memory.
 
-use dev_model::{MemSink, MemSource};
 use geo_base::{Note, Point, Row};
+use mem_device::{MemSink, MemSource};
 use script_lang::{
     Answer, Command, RowList, Why, print_answer, print_refused, read_number, read_script,
 };

@@ -2,7 +2,8 @@
 
 use crate::lists::empty;
 use crate::steps::{Answer, Played, Step, Told, answers_at, formatted, play, refused};
-use dev_model::{Device, MemDevice, Torn};
+use dev_model::Device;
+use mem_device::{MemDevice, Torn};
 use std::alloc::Global;
 use store_opening::OpenFault;
 use store_state::State;

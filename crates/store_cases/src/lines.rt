@@ -3,8 +3,8 @@
 use crate::bench::{Bench, Report};
 use crate::lists::{Change, flush, job, make, numbers};
 use crate::steps::Step;
-use dev_model::Torn;
 use geo_base::IndexKind;
+use mem_device::Torn;
 use std::alloc::Global;
 use store_state::State;
 

@@ -6,9 +6,10 @@ ghost use Rattle.store_state.specs.OwnJob.{IsJobOf};
 ghost use Rattle.store_core.specs.Stores.{state_of};
 
 use build_job::{BuildJob, JobStep};
-use dev_model::{Device, MemDevice, Torn};
+use dev_model::Device;
 use device_format::format_dev;
 use geo_base::{IndexKind, IndexSet, Note, Point, Rect, Row};
+use mem_device::{MemDevice, Torn};
 use space_map::{LEAST_PAGES, MOST_PAGES};
 use std::alloc::Global;
 use store_core::Store;

@@ -1,0 +1,4 @@
+pub mod Inside
+pub mod Memory
+pub mod Planned
+pub mod TornImages
