@@ -6,16 +6,16 @@ use Rattle.std.proofs.lemmas.Bool.{cases_Bool, ltb-true, ltb-false}
 use Rattle.std.proofs.lemmas.List.Elements.{All-append, All-cons}
 use Rattle.dev_model.specs.Counts.{Rose}
 use Rattle.dev_model.specs.Story.{WhereTold}
-use Rattle.page_codec.specs.declared.faults.PageFault.{PageFault}
-use Rattle.page_codec.specs.declared.faults.PageFault.TheVariants.{Failed, Damaged, OutOfMemory}
+use Rattle.dev_model.specs.declared.page_faults.PageFault.{PageFault}
+use Rattle.dev_model.specs.declared.page_faults.PageFault.TheVariants.{Failed, Damaged, OutOfMemory}
 use Rattle.btree_image.specs.Rows.{Layout}
 use Rattle.btree_image.specs.Shown.{IsShown}
 use Rattle.btree_image.specs.Damage.{IsDamaged}
 use Rattle.btree_image.specs.Tested.{IsTested}
-use Rattle.tree_shape.specs.Asked.{given_but_last, EndsWith, GoesBy, Went}
-use Rattle.tree_shape.specs.Given.{given}
+use Rattle.dev_model.specs.Asked.{given_but_last, EndsWith, GoesBy, Went}
+use Rattle.dev_model.specs.Given.{given}
 use Rattle.btree_image.specs.Walks.{reads_by, StopsOn, GoesAlong, OnDamaged, OnFailed, OnGiven, GoesOn, fault_of}
-use Rattle.tree_shape.specs.Laws.Trail.{given-append}
+use Rattle.dev_model.specs.Laws.Trail.{given-append}
 
 -- a count that rose later rose
 next-below : (a b most : ℕ) → a ≤ b → (if nat_lt a most then a + 1 else a) ≤ (if nat_lt b most then b + 1 else b)

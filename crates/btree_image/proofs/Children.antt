@@ -7,7 +7,7 @@ use Rattle.std.specs.Int.{to_be_bytes, from_be_bytes, w32}
 use Rattle.std.specs.Ordering.{is_gt}
 use Rattle.std.specs.declared.cmp.Ordering.TheVariants.{Greater}
 use Rattle.page_codec.specs.Page.{most_rows}
-use Rattle.tree_shape.specs.Laws.Writing.{stands, Stands}
+use Rattle.page_codec.specs.Laws.Writing.{stands, Stands}
 use Rattle.tree_shape.specs.Laws.Places.{child_has_row}
 use Rattle.tree_shape.specs.declared.levels.Shape.{Shape}
 use Rattle.tree_shape.specs.Shape.{level_size, level_start, span, numbers}

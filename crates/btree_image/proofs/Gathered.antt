@@ -16,7 +16,7 @@ use Rattle.btree_image.specs.Image.{level_rows, IsList}
 use Rattle.btree_image.specs.Descent.{rank, place_of_key}
 use Rattle.btree_image.specs.Steps.{reaches, precedes, IsLastUpTo}
 use Rattle.btree_image.specs.Walks.{rank_below, part, rows_of, Leads}
-use Rattle.tree_shape.specs.Laws.Writing.{length-rows_on, stands}
+use Rattle.page_codec.specs.Laws.Writing.{length-rows_on, stands}
 use Rattle.btree_image.proofs.Rank.{rank-le, at_most-below, greater-from}
 use Rattle.btree_image.proofs.Ranks.{below-rank, below-passes, below-stops, rank-next}
 use Rattle.btree_image.proofs.Narrowed.{end-some, place-none, last_place}

@@ -14,7 +14,7 @@ use Rattle.btree_image.specs.Image.{shape_of}
 use Rattle.btree_image.specs.Descent.{rank, place_of_key}
 use Rattle.tree_shape.specs.Laws.Covers.{span-zero}
 use Rattle.btree_image.proofs.Rank.{rank-le, at_most-below, greater-from}
-use Rattle.tree_shape.specs.Laws.Writing.{Stands}
+use Rattle.page_codec.specs.Laws.Writing.{Stands}
 
 module _ {T K : Type 0} (l : Layout T K) (key : K) where
   abbrev is_key : T → Bool

@@ -21,7 +21,7 @@ use Rattle.tree_shape.specs.Laws.Covers.{past_quotient, child_reached}
 use Rattle.btree_image.proofs.Rank.{rank-le, at_most-below, greater-from}
 use Rattle.btree_image.proofs.Ranks.{isnt_greater, rank-mono, rank-before, below-rank, below-passes, below-stops}
 use Rattle.btree_image.proofs.Narrowed.{end-some, end-none, end-inside, span-some, run-follows, leads-own}
-use Rattle.tree_shape.specs.Laws.Writing.{stands}
+use Rattle.page_codec.specs.Laws.Writing.{stands}
 use Rattle.btree_image.proofs.Places.{numbers-then, behind-some, places-none, unmoved}
 
 pub filter-none : {X : Type 0} (p : X → Bool) (xs : List X) → All (λ x. p x ≡ false) xs → filter p xs ≡ []

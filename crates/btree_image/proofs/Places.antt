@@ -3,7 +3,7 @@ use Rattle.std.proofs.Common.{◌≡◌, ℕ, zero, suc, ◌+◌, ◌-◌, ◌<�
 use Rattle.std.proofs.lemmas.Bool.{cases_lt, cases_eq, lt-ltb, le-ltb}
 use Rattle.std.proofs.lemmas.List.{drop_more, drop_all, append-nil, map-append, get_or-set_same, get_or-set_other}
 use Rattle.btree_image.specs.declared.runs.Run.{Run}
-use Rattle.tree_shape.specs.Asked.{EndsWith}
+use Rattle.dev_model.specs.Asked.{EndsWith}
 use Rattle.btree_image.specs.Rows.{Layout}
 use Rattle.tree_shape.specs.Shape.{numbers}
 use Rattle.btree_image.specs.Pages.{page_number}

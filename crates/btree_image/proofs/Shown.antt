@@ -10,7 +10,7 @@ use Rattle.btree_image.specs.Rows.{Layout}
 use Rattle.btree_image.specs.Image.{shape_of, level_rows, level_kind, IsList, child_row}
 use Rattle.tree_shape.specs.Shape.{numbers}
 use Rattle.btree_image.specs.Damage.{IsTreePage}
-use Rattle.tree_shape.specs.Laws.Writing.{length-rows_on}
+use Rattle.page_codec.specs.Laws.Writing.{length-rows_on}
 use Rattle.tree_shape.specs.Laws.Numbers.{length-numbers}
 use Rattle.tree_shape.specs.Laws.Covers.{level_size-suc}
 use Rattle.btree_image.proofs.Children.{level_rows-children}

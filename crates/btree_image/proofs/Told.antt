@@ -20,9 +20,9 @@ use Rattle.btree_image.specs.Shown.{IsShown}
 use Rattle.btree_image.specs.Descent.{rank, place_of_key}
 use Rattle.btree_image.specs.Damage.{AllReadable, IsTreePage, IsDamaged}
 use Rattle.btree_image.specs.Tested.{IsTested}
-use Rattle.page_codec.specs.declared.faults.PageFault.TheVariants.{Damaged}
+use Rattle.dev_model.specs.declared.page_faults.PageFault.TheVariants.{Damaged}
 use Rattle.btree_image.specs.Steps.{IsLastUpTo, row_at}
-use Rattle.tree_shape.specs.Laws.Writing.{length-rows_on, stands, Stands}
+use Rattle.page_codec.specs.Laws.Writing.{length-rows_on, stands, Stands}
 use Rattle.tree_shape.specs.Laws.Numbers.{length-numbers}
 use Rattle.btree_image.proofs.Rank.{rank-le, at_most-below, greater-from}
 use Rattle.tree_shape.specs.Laws.Covers.{place_inside, place_above}

@@ -6,8 +6,8 @@ use Rattle.std.specs.Int.{div_ceil}
 use Rattle.dev_model.specs.Counts.{Rose}
 use Rattle.dev_model.specs.Story.{WhereTold}
 use Rattle.page_codec.specs.Page.{IsPage, row_count}
-use Rattle.page_codec.specs.declared.faults.PageFault.{PageFault}
-use Rattle.page_codec.specs.declared.faults.PageFault.TheVariants.{Failed, Damaged, OutOfMemory}
+use Rattle.dev_model.specs.declared.page_faults.PageFault.{PageFault}
+use Rattle.dev_model.specs.declared.page_faults.PageFault.TheVariants.{Failed, Damaged, OutOfMemory}
 use Rattle.btree_image.specs.declared.hand.InHand.{InHand}
 use Rattle.btree_image.specs.declared.runs.Run.{Run}
 use Rattle.tree_shape.specs.Shape.{span, level_size, numbers}
@@ -18,8 +18,8 @@ use Rattle.btree_image.specs.Shown.{IsShown}
 use Rattle.btree_image.specs.Descent.{rank, place_of_key}
 use Rattle.btree_image.specs.Damage.{IsDamaged}
 use Rattle.btree_image.specs.Tested.{IsTested}
-use Rattle.tree_shape.specs.Asked.{given_but_last, EndsWith}
-use Rattle.tree_shape.specs.Given.{given}
+use Rattle.dev_model.specs.Asked.{given_but_last, EndsWith}
+use Rattle.dev_model.specs.Given.{given}
 
 -- the fault of an answer
 abbrev pub fault_of : {X : Type 0} → Result X PageFault → Option PageFault

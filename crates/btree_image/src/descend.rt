@@ -4,7 +4,7 @@ ghost use Rattle.std.specs.Prelude.{◌≡◌, ◌≢◌, ℕ, suc, [], ◌∷�
 ghost use Rattle.dev_model.specs.Counts.{Rose, HasCause};
 ghost use Rattle.dev_model.specs.Story.{WhereTold};
 ghost use Rattle.page_codec.specs.Page.{IsPage, ShowsRows, row_count};
-ghost use Rattle.page_codec.specs.declared.faults.PageFault.TheVariants.{Failed, Damaged, OutOfMemory};
+ghost use Rattle.dev_model.specs.declared.page_faults.PageFault.TheVariants.{Failed, Damaged, OutOfMemory};
 ghost use Rattle.tree_shape.specs.Shape.{level_size, level_start, IsRoot, IsPlace};
 ghost use Rattle.btree_image.specs.Given.{row_with_key};
 ghost use Rattle.btree_image.specs.Image.{shape_of, level_rows, IsList};
@@ -14,13 +14,14 @@ ghost use Rattle.btree_image.specs.Lent.{AreLent};
 ghost use Rattle.btree_image.specs.Descent.{place_of_key, descent};
 ghost use Rattle.btree_image.specs.Damage.{IsInnerPage, IsDamaged};
 ghost use Rattle.btree_image.specs.Tested.{IsTested};
-ghost use Rattle.tree_shape.specs.Asked.{Went, GoesBy};
+ghost use Rattle.dev_model.specs.Asked.{Went, GoesBy};
 
 use crate::TreeRow;
 use crate::in_page::{child_for, row_for};
 use crate::levels::{level_at, root_level};
-use dev_model::Pages;
-use page_codec::{PAGE_BYTES, PageFault, TreeRef};
+use dev_model::{PageFault, Pages};
+use page_codec::PAGE_BYTES;
+use tree_shape::TreeRef;
 
 // Reads the page at a place of a level, and gives its number.
 pub(crate) fn read_place<T: TreeRow, P: Pages>(

@@ -2,7 +2,7 @@
 
 ghost use Rattle.std.specs.Prelude.{◌≡◌, ◌≢◌, ℕ, suc, zero, [], ◌++◌, ◌+◌, ◌-◌, ◌*◌, ◌<◌, ◌≤◌, min, max, List, length, map, take, drop, slice_index_or, Some, All, OnOk, IfErr, ◌⊎◌, if◌then◌else◌};
 ghost use Rattle.page_codec.specs.Page.{IsPage, row_count, rows_on, most_rows};
-ghost use Rattle.page_codec.specs.declared.faults.PageFault.TheVariants.{Damaged, OutOfMemory};
+ghost use Rattle.dev_model.specs.declared.page_faults.PageFault.TheVariants.{Damaged, OutOfMemory};
 ghost use Rattle.tree_shape.specs.Shape.{level_size, IsPlace};
 ghost use Rattle.btree_image.specs.Image.{shape_of, level_kind};
 ghost use Rattle.btree_image.specs.Pages.{page_number};
@@ -18,8 +18,9 @@ use crate::TreeRow;
 use crate::hand::{InHand, reach};
 use crate::in_page::{rows_before, rows_up_to};
 use crate::runs::Run;
-use dev_model::Pages;
-use page_codec::{PageFault, TreeRef, row};
+use dev_model::{PageFault, Pages};
+use page_codec::row;
+use tree_shape::TreeRef;
 
 // Copies rows of the leaf in hand out, from one place up to another.
 fn push_rows<T: TreeRow>(

@@ -10,8 +10,9 @@ ghost use Rattle.btree_image.specs.Walks.{GoesOn, fault_of, IsInHand, Holds, pla
 
 use crate::TreeRow;
 use crate::descend::read_place;
-use dev_model::Pages;
-use page_codec::{BadPage, PAGE_BYTES, PageFault, TreeRef, open_page};
+use dev_model::{PageFault, Pages};
+use page_codec::{BadPage, PAGE_BYTES, open_page};
+use tree_shape::TreeRef;
 
 /// A page of a level, the place behind it, its number and how many rows it has. `next` is 0 while no page was read.
 #[derive(Drop)]

@@ -17,8 +17,8 @@ use crate::hand::{InHand, reach};
 use crate::in_page::{last_up_to, rows_up_to};
 use crate::levels::{level_at, per_inner};
 use crate::runs::Run;
-use dev_model::Pages;
-use page_codec::{PageFault, TreeRef};
+use dev_model::{PageFault, Pages};
+use tree_shape::TreeRef;
 
 // Goes on over the pages of a run.
 fn pass<T: TreeRow, P: Pages>(

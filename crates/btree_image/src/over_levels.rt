@@ -3,14 +3,14 @@
 ghost use Rattle.std.specs.Prelude.{◌≡◌, ◌≢◌, ℕ, suc, [], ◌++◌, ◌+◌, ◌<◌, ◌≤◌, List, length, replicate, All, AllPairs, OnOk, OnErr, IfErr, MatchResult, ◌⊎◌};
 ghost use Rattle.dev_model.specs.Counts.{Rose};
 ghost use Rattle.dev_model.specs.Story.{WhereTold};
-ghost use Rattle.page_codec.specs.declared.faults.PageFault.TheVariants.{Failed, Damaged, OutOfMemory};
+ghost use Rattle.dev_model.specs.declared.page_faults.PageFault.TheVariants.{Failed, Damaged, OutOfMemory};
 ghost use Rattle.tree_shape.specs.Shape.{IsRoot};
 ghost use Rattle.btree_image.specs.Image.{shape_of};
 ghost use Rattle.btree_image.specs.Shown.{IsShown};
 ghost use Rattle.btree_image.specs.Lent.{AreLent};
 ghost use Rattle.btree_image.specs.Damage.{IsDamaged};
 ghost use Rattle.btree_image.specs.Tested.{IsTested};
-ghost use Rattle.tree_shape.specs.Asked.{Went, GoesBy};
+ghost use Rattle.dev_model.specs.Asked.{Went, GoesBy};
 ghost use Rattle.btree_image.specs.Visited.{visited_pages};
 ghost use Rattle.btree_image.specs.Given.{AreRanges, rows_met};
 ghost use Rattle.btree_image.specs.Walks.{GoesOn, GoesAlong, fault_of};
@@ -21,8 +21,9 @@ use crate::hand::{InHand, reach};
 use crate::levels::root_level;
 use crate::narrow::narrow;
 use crate::runs::Run;
-use dev_model::Pages;
-use page_codec::{PAGE_BYTES, PageFault, TreeRef};
+use dev_model::{PageFault, Pages};
+use page_codec::PAGE_BYTES;
+use tree_shape::TreeRef;
 
 // Goes down from the root with a run for each range.
 fn scan_levels<T: TreeRow, P: Pages>(

@@ -7,3 +7,4 @@ pub mod Plans
 pub mod Ranges
 pub mod Reads
 pub mod Runs
+pub mod Trail

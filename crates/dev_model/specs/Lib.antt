@@ -1,8 +1,10 @@
 pub mod Adapted
 pub mod Answers
+pub mod Asked
 pub mod Counts
 pub mod DeviceCalls
 pub mod Doing
+pub mod Given
 pub mod Laws
 pub mod Moments
 pub mod Story

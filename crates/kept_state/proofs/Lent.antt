@@ -3,8 +3,8 @@ use Rattle.std.proofs.Common.{◌≡◌, ℕ, List, All, Option, Some, Result, O
 use Rattle.std.specs.Prelude.{OnOk, MatchResult}
 use Rattle.space_map.specs.declared.space.Extent.{Extent}
 use Rattle.dev_model.specs.Story.{Story, WhereTold}
-use Rattle.page_codec.specs.declared.faults.PageFault.{PageFault}
-use Rattle.tree_shape.specs.Asked.{GoesBy}
+use Rattle.dev_model.specs.declared.page_faults.PageFault.{PageFault}
+use Rattle.dev_model.specs.Asked.{GoesBy}
 use Rattle.device_pages.specs.Lending.{contents_of}
 use Rattle.primary_ix.specs.Components.{AreShown}
 use Rattle.primary_ix.specs.Roots.{AreRoots}

@@ -7,9 +7,9 @@ use Rattle.dev_model.specs.Story.{Story, clock_of, WhereTold}
 use Rattle.dev_model.specs.DeviceCalls.{ok_calls}
 use Rattle.dev_model.specs.Laws.Reads.{LeavesOnly-reads}
 use Rattle.dev_model.specs.Moments.{ReadsWithin}
-use Rattle.page_codec.specs.declared.faults.PageFault.{PageFault}
-use Rattle.page_codec.specs.declared.faults.PageFault.TheVariants.{Failed, Damaged, OutOfMemory}
-use Rattle.tree_shape.specs.Asked.{Went, reads_of, given_but_last}
+use Rattle.dev_model.specs.declared.page_faults.PageFault.{PageFault}
+use Rattle.dev_model.specs.declared.page_faults.PageFault.TheVariants.{Failed, Damaged, OutOfMemory}
+use Rattle.dev_model.specs.Asked.{Went, reads_of, given_but_last}
 use Rattle.device_pages.specs.Asked.{Seen, Asked, seen, calls_of, pages_of}
 use Rattle.device_pages.specs.Lent.{is_lent}
 use Rattle.device_pages.specs.Laws.Asked.{asked-none, story-asked, ok_calls-asked, pages_of-given, ReadsWithin-asked}

@@ -4,11 +4,11 @@ use Rattle.dev_model.specs.Moments.{LeavesOnly, ReadsWithin}
 use Rattle.dev_model.specs.Story.{Story, WhereTold, IsImageNow}
 use Rattle.table_model.specs.Table.{Table}
 use Rattle.wal_log.specs.declared.log.Log.{Log}
-use Rattle.tree_shape.specs.Asked.{Went, reads_of}
+use Rattle.dev_model.specs.Asked.{Went, reads_of}
 use Rattle.device_pages.specs.Asked.{Seen, Asked}
 use Rattle.device_pages.specs.Claims.{MadeReads}
 use Rattle.device_pages.specs.Lent.{is_lent}
-use Rattle.page_codec.specs.declared.faults.PageFault.{PageFault}
+use Rattle.dev_model.specs.declared.page_faults.PageFault.{PageFault}
 use Rattle.page_codec.specs.declared.pages.TheConstants.{PAGE_BYTES}
 use Rattle.primary_ix.specs.declared.rows.PrimRow.{PrimRow}
 use Rattle.component_image.specs.Recovered.{Recovers}

@@ -3,8 +3,8 @@
 ghost use Rattle.std.specs.Prelude.{◌≡◌, ◌≢◌, ℕ, ◌≤◌, List, All, ◌⊎◌, OnOk, IfOk, IfErr, IfSome, MatchResult, Ok, Some};
 ghost use Rattle.dev_model.specs.Counts.{Rose};
 ghost use Rattle.dev_model.specs.Story.{WhereTold};
-ghost use Rattle.page_codec.specs.declared.faults.PageFault.TheVariants.{Failed, Damaged, OutOfMemory};
-ghost use Rattle.tree_shape.specs.Asked.{GoesBy};
+ghost use Rattle.dev_model.specs.declared.page_faults.PageFault.TheVariants.{Failed, Damaged, OutOfMemory};
+ghost use Rattle.dev_model.specs.Asked.{GoesBy};
 ghost use Rattle.device_pages.specs.Asked.{seen};
 ghost use Rattle.device_pages.specs.Lending.{contents_of};
 ghost use Rattle.order_merge.specs.Entries.{newest_at};
@@ -26,10 +26,9 @@ ghost use Rattle.store_state.specs.EveryList.{IsLists};
 ghost use Rattle.kept_state.specs.Reading.{IsLegible};
 ghost use Rattle.kept_state.specs.OnlyRead.{HasRead, IsOnlyRead};
 
-use dev_model::Device;
+use dev_model::{Device, PageFault};
 use device_pages::DevicePages;
 use geo_base::Row;
-use page_codec::PageFault;
 use primary_ix::{PrimRow, living_rows, lookup_disk};
 use std::alloc::Global;
 use store_state::State;

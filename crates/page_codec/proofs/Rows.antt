@@ -6,7 +6,7 @@ use Rattle.std.proofs.Math.Nat.{mul-le-mul_left}
 use Rattle.page_codec.specs.Page.{row_width, most_rows, kind_of, row_count, rows_in, rows_on}
 use Rattle.page_codec.specs.Written.{joined, page_of}
 use Rattle.page_codec.specs.Adding.{with_row, AllOfWidth}
-use Rattle.page_codec.specs.Laws.{length-joined, row_count-page_of}
+use Rattle.page_codec.specs.Laws.Written.{length-joined, row_count-page_of}
 
 -- room for one row more
 pub place_fits : (n width most : ℕ) → 0 < width → n < most / width → suc n * width ≤ most

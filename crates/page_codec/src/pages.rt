@@ -22,15 +22,6 @@ const COUNT_AT: usize = 2;
 
 const RESERVED_AT: usize = 4;
 
-/// The image of a list of rows that begins at a page of the device.
-#[derive(Clone, Copy, Debug, PartialEq, Eq)]
-pub struct TreeRef {
-    /// The page of the device at which it begins.
-    pub first: u32,
-    /// How many rows its list has.
-    pub rows: u32,
-}
-
 /// The bytes are no page of the kind and level that was asked for.
 #[derive(Clone, Copy, Debug, PartialEq, Eq)]
 pub struct BadPage;

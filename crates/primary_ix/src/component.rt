@@ -14,8 +14,9 @@ use crate::rows::PrimRow;
 use btree_image::{load_page, pages_for};
 use mem_comp::MemView;
 use order_merge::merge_newest;
-use page_codec::{PAGE_BYTES, TreeRef};
+use page_codec::PAGE_BYTES;
 use std::alloc::{AllocError, Global};
+use tree_shape::TreeRef;
 
 /// A component of the primary on disk.
 #[derive(Clone, Copy, Debug)]

@@ -3,9 +3,9 @@
 ghost use Rattle.std.specs.Prelude.{◌≡◌, ℕ, ◌≤◌, ◌⊎◌, ◌++◌, [], List, All, map, OnOk, IfOk, IfErr, MatchResult, true};
 ghost use Rattle.dev_model.specs.Counts.{Rose};
 ghost use Rattle.dev_model.specs.Story.{WhereTold};
-ghost use Rattle.page_codec.specs.declared.faults.PageFault.TheVariants.{Failed, Damaged, OutOfMemory};
+ghost use Rattle.dev_model.specs.declared.page_faults.PageFault.TheVariants.{Failed, Damaged, OutOfMemory};
 ghost use Rattle.tree_shape.specs.Shape.{IsRoot};
-ghost use Rattle.tree_shape.specs.Asked.{Went, GoesBy};
+ghost use Rattle.dev_model.specs.Asked.{Went, GoesBy};
 ghost use Rattle.btree_image.specs.Damage.{IsDamaged};
 ghost use Rattle.btree_image.specs.Tested.{IsTested};
 ghost use Rattle.btree_image.specs.Image.{shape_of};
@@ -31,10 +31,9 @@ ghost use Rattle.primary_ix.specs.Records.{table_rows};
 use crate::component::{PrimComp, merged};
 use crate::rows::PrimRow;
 use btree_image::scan;
-use dev_model::Pages;
+use dev_model::{PageFault, Pages};
 use geo_base::MOST_KEY;
 use mem_comp::MemView;
-use page_codec::PageFault;
 use std::alloc::{AllocError, Global};
 
 // All rows of a component. A row that doesn't stand above the last one kept is left out; on sound pages there is none.

@@ -3,8 +3,8 @@
 ghost use Rattle.std.specs.Prelude.{◌≡◌, ◌≢◌, ℕ, ◌≤◌, List, All, OnOk, IfErr, IfSome, MatchResult, Ok};
 ghost use Rattle.dev_model.specs.Counts.{Rose};
 ghost use Rattle.dev_model.specs.Story.{WhereTold};
-ghost use Rattle.page_codec.specs.declared.faults.PageFault.TheVariants.{Failed, Damaged, OutOfMemory};
-ghost use Rattle.tree_shape.specs.Asked.{Went, GoesBy};
+ghost use Rattle.dev_model.specs.declared.page_faults.PageFault.TheVariants.{Failed, Damaged, OutOfMemory};
+ghost use Rattle.dev_model.specs.Asked.{Went, GoesBy};
 ghost use Rattle.order_merge.specs.Entries.{newest_at};
 ghost use Rattle.order_merge.specs.Fitting.{Fits, living_at};
 ghost use Rattle.order_merge.specs.Views.{lists_of};
@@ -21,9 +21,8 @@ ghost use Rattle.primary_ix.specs.Records.{record_in, record_of};
 use crate::component::{PrimComp, PrimView};
 use crate::rows::PrimRow;
 use btree_image::find;
-use dev_model::Pages;
+use dev_model::{PageFault, Pages};
 use geo_base::Row;
-use page_codec::PageFault;
 
 /// The row of a key in the newest of these components that has one, anti or not. The newest component stands first.
 ///

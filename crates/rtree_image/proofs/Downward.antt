@@ -4,11 +4,11 @@ use Rattle.std.specs.Prelude.{Result, Ok, Err, MatchResult, OnOk}
 use Rattle.std.proofs.lemmas.List.{map-append}
 use Rattle.std.proofs.lemmas.List.Elements.{All-append}
 use Rattle.dev_model.specs.Story.{WhereTold}
-use Rattle.page_codec.specs.declared.faults.PageFault.{PageFault}
+use Rattle.dev_model.specs.declared.page_faults.PageFault.{PageFault}
 use Rattle.geo_base.specs.Corners.{Corners}
 use Rattle.tree_shape.specs.declared.levels.Shape.{Shape}
 use Rattle.tree_shape.specs.Shape.{level_size, level_start}
-use Rattle.tree_shape.specs.Asked.{GoesBy}
+use Rattle.dev_model.specs.Asked.{GoesBy}
 use Rattle.rtree_image.specs.declared.rows.RtRow.{RtRow}
 use Rattle.rtree_image.specs.Image.{page_number}
 use Rattle.rtree_image.specs.Visits.{visited_at, visited_from}

@@ -7,7 +7,7 @@ use Rattle.std.proofs.lemmas.List.{take_more, map-append}
 use Rattle.std.proofs.lemmas.List.Concat.{flat_map-append}
 use Rattle.std.proofs.Math.Numerals.{add-one}
 use Rattle.tree_shape.specs.Shape.{numbers}
-use Rattle.tree_shape.specs.Laws.Writing.{numbers-snoc}
+use Rattle.tree_shape.specs.Laws.Numbers.{numbers-snoc}
 
 pub filter-append : {X : Type 0} (test : X → Bool) (xs ys : List X) → filter test (xs ++ ys) ≡ filter test xs ++ filter test ys
 filter-append test [] ys = refl

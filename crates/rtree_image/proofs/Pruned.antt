@@ -11,7 +11,7 @@ use Rattle.tree_shape.specs.declared.levels.Shape.{Shape}
 use Rattle.tree_shape.specs.Shape.{level_size, span, numbers, IsRoot}
 use Rattle.tree_shape.specs.Laws.Covers.{span-next, size_covers, level_size-suc}
 use Rattle.tree_shape.specs.Laws.Numbers.{children_at-numbers, length-numbers}
-use Rattle.tree_shape.specs.Laws.Writing.{take_of_length-le}
+use Rattle.page_codec.specs.Laws.Writing.{take_of_length-le}
 use Rattle.rtree_image.specs.declared.rows.RtRow.{RtRow}
 use Rattle.rtree_image.specs.Image.{rows_below}
 use Rattle.rtree_image.specs.Visits.{is_inside, rows_inside, is_met, visited_at}

@@ -9,7 +9,7 @@ use Rattle.std.proofs.lemmas.List.Elements.{All-take, All-drop}
 use Rattle.std.proofs.lemmas.Grind.{div_ceil_times}
 use Rattle.std.proofs.lemmas.Nat.{from_be_bytes-to_be_bytes_2, from_be_bytes-to_be_bytes_4, from_be_bytes-to_be_bytes_8}
 use Rattle.dev_model.specs.Story.{WhereTold}
-use Rattle.page_codec.specs.declared.faults.PageFault.TheVariants.{Damaged}
+use Rattle.dev_model.specs.declared.page_faults.PageFault.TheVariants.{Damaged}
 use Rattle.page_codec.specs.declared.kinds.TheConstants.{RTREE_INNER}
 use Rattle.page_codec.specs.Page.{row_count, rows_on, ShowsRows}
 use Rattle.geo_base.specs.Corners.{Corners}
@@ -17,7 +17,7 @@ use Rattle.tree_shape.specs.declared.levels.Shape.{Shape}
 use Rattle.tree_shape.specs.Shape.{level_size, level_start, span, numbers, IsPlace}
 use Rattle.tree_shape.specs.Laws.Covers.{level_size-suc, one_le-level_size}
 use Rattle.tree_shape.specs.Laws.Numbers.{children_at-numbers, length-numbers, get_or-numbers}
-use Rattle.tree_shape.specs.Laws.Writing.{length-rows_on}
+use Rattle.page_codec.specs.Laws.Writing.{length-rows_on}
 use Rattle.rtree_image.specs.declared.rows.RtRow.{RtRow}
 use Rattle.rtree_image.specs.declared.bounds.Bounds.{Bounds}
 use Rattle.rtree_image.specs.Rows.{row_bytes, row_of, IsStored}

@@ -3,12 +3,12 @@ use Rattle.std.proofs.Common.{◌≡◌, ℕ, ◌+◌, ◌<◌, ◌≤◌, Bool,
 use Rattle.std.specs.Prelude.{Result, Ok, Err, IsTrue}
 use Rattle.std.proofs.lemmas.List.{take_more, map-append, take-append-drop}
 use Rattle.std.proofs.lemmas.List.Elements.{All-append, All-cons, All-nil}
-use Rattle.page_codec.specs.declared.faults.PageFault.{PageFault}
-use Rattle.page_codec.specs.declared.faults.PageFault.TheVariants.{Failed, Damaged, OutOfMemory}
-use Rattle.tree_shape.specs.Asked.{GoesBy, Went}
-use Rattle.tree_shape.specs.Given.{given}
-use Rattle.tree_shape.specs.Laws.Trail.{went-then, given-append}
-use Rattle.tree_shape.specs.Laws.Writing.{take_of_length-le}
+use Rattle.dev_model.specs.declared.page_faults.PageFault.{PageFault}
+use Rattle.dev_model.specs.declared.page_faults.PageFault.TheVariants.{Failed, Damaged, OutOfMemory}
+use Rattle.dev_model.specs.Asked.{GoesBy, Went}
+use Rattle.dev_model.specs.Given.{given}
+use Rattle.dev_model.specs.Laws.Trail.{went-then, given-append}
+use Rattle.page_codec.specs.Laws.Writing.{take_of_length-le}
 use Rattle.rtree_image.specs.Steps.{WentAmong}
 
 -- these pages were asked for, and each was given

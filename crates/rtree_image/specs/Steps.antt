@@ -1,11 +1,11 @@
 -- No public contract needs this file: the steps of a search.
 use Rattle.std.specs.Prelude.{◌≡◌, ℕ, suc, ◌≤◌, Bool, List, [], ◌∷◌, ◌++◌, map, Result}
 use Rattle.std.specs.List.{filter}
-use Rattle.page_codec.specs.declared.faults.PageFault.{PageFault}
+use Rattle.dev_model.specs.declared.page_faults.PageFault.{PageFault}
 use Rattle.geo_base.specs.Corners.{Corners}
 use Rattle.tree_shape.specs.declared.levels.Shape.{Shape}
 use Rattle.tree_shape.specs.Shape.{level_size, children_at}
-use Rattle.tree_shape.specs.Asked.{GoesBy, Went}
+use Rattle.dev_model.specs.Asked.{GoesBy, Went}
 use Rattle.rtree_image.specs.declared.rows.RtRow.{RtRow}
 use Rattle.rtree_image.specs.Visits.{is_met}
 

@@ -4,9 +4,9 @@ ghost use Rattle.std.specs.Prelude.{◌≡◌, ◌≢◌, ℕ, suc, [], ◌∷�
 ghost use Rattle.std.specs.List.{flat_map};
 ghost use Rattle.dev_model.specs.Counts.{Rose, HasCause};
 ghost use Rattle.dev_model.specs.Story.{WhereTold};
-ghost use Rattle.page_codec.specs.declared.faults.PageFault.TheVariants.{Failed, Damaged, OutOfMemory};
+ghost use Rattle.dev_model.specs.declared.page_faults.PageFault.TheVariants.{Failed, Damaged, OutOfMemory};
 ghost use Rattle.tree_shape.specs.Shape.{level_size, level_start, IsRoot, IsPlace};
-ghost use Rattle.tree_shape.specs.Asked.{Went, GoesBy};
+ghost use Rattle.dev_model.specs.Asked.{Went, GoesBy};
 ghost use Rattle.rtree_image.specs.declared.rows.RtRow.{RtRow};
 ghost use Rattle.rtree_image.specs.Image.{tree_of, rows_below, IsShown, page_number, AreLent};
 ghost use Rattle.rtree_image.specs.Visits.{rows_inside, visited_pages};
@@ -16,9 +16,10 @@ ghost use Rattle.rtree_image.specs.Damage.{IsDamaged, IsTestedFor};
 use crate::in_page::{Unusable, add_children, add_rows};
 use crate::levels::{level_at, root_level};
 use crate::rows::RtRow;
-use dev_model::Pages;
+use dev_model::{PageFault, Pages};
 use geo_base::Rect;
-use page_codec::{PAGE_BYTES, PageFault, RTREE_LEAF, TreeRef, open_page};
+use page_codec::{PAGE_BYTES, RTREE_LEAF, open_page};
+use tree_shape::TreeRef;
 
 // Reads the page at a place of a level, and gives its number.
 fn read_place<P: Pages>(

@@ -3,15 +3,15 @@ use Rattle.std.proofs.Common.{◌≡◌, ℕ, ◌≤◌, Bool, true, false, List
 use Rattle.dev_model.specs.Counts.{Rose, next_count}
 use Rattle.dev_model.specs.Story.{Story, WhereTold, clock_of}
 use Rattle.geo_base.specs.declared.points.Row.{Row}
-use Rattle.page_codec.specs.declared.faults.PageFault.{PageFault}
-use Rattle.page_codec.specs.declared.faults.PageFault.TheVariants as page
+use Rattle.dev_model.specs.declared.page_faults.PageFault.{PageFault}
+use Rattle.dev_model.specs.declared.page_faults.PageFault.TheVariants as page
 use Rattle.primary_ix.specs.Damage.{IsDamagedIn}
 use Rattle.primary_ix.specs.Wanted.{table_row}
 use Rattle.primary_ix.specs.declared.rows.PrimRow.{PrimRow}
 use Rattle.table_model.specs.Table.{Table}
 use Rattle.wal_log.specs.declared.log.Log.{Log}
 use Rattle.store_state.specs.Lists.{Lists, extents_of, placed_up_to, trees_of}
-use Rattle.tree_shape.specs.Asked.{reads_of}
+use Rattle.dev_model.specs.Asked.{reads_of}
 use Rattle.device_pages.specs.Asked.{calls_of}
 use Rattle.device_pages.specs.Lending.{contents_of}
 use Rattle.kept_state.specs.Reading.{IsLegible}

@@ -11,7 +11,7 @@ use Rattle.dev_model.specs.Doing.{all_noted}
 use Rattle.geo_base.specs.declared.points.Row.{Row}
 use Rattle.table_model.specs.Table.{Table, Place, row_at}
 use Rattle.primary_ix.specs.Wanted.{table_row}
-use Rattle.tree_shape.specs.Asked.{reads_of}
+use Rattle.dev_model.specs.Asked.{reads_of}
 use Rattle.device_pages.specs.Asked.{calls_of}
 use Rattle.primary_ix.specs.declared.rows.PrimRow.{PrimRow}
 use Rattle.store_machine.specs.Needs.{place_in}

@@ -6,8 +6,8 @@ use Rattle.geo_base.specs.Corners.{Corners}
 use Rattle.geo_base.specs.Indexes.{has_index}
 use Rattle.geo_base.specs.declared.points.IndexKind.{IndexKind}
 use Rattle.geo_base.specs.declared.points.Row.{Row}
-use Rattle.page_codec.specs.declared.faults.PageFault.{PageFault}
-use Rattle.page_codec.specs.declared.faults.PageFault.TheVariants as page
+use Rattle.dev_model.specs.declared.page_faults.PageFault.{PageFault}
+use Rattle.dev_model.specs.declared.page_faults.PageFault.TheVariants as page
 use Rattle.primary_ix.specs.Wanted.{matter_row}
 use Rattle.primary_ix.specs.Records.{table_rows}
 use Rattle.primary_ix.specs.declared.rows.PrimRow.{PrimRow}

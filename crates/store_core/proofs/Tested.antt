@@ -9,10 +9,10 @@ use Rattle.dev_model.specs.Laws.Plans.{all_noted-told}
 use Rattle.dev_model.specs.Laws.Runs.{after-append}
 use Rattle.dev_model.specs.declared.calls.DeviceCall.{DeviceCall}
 use Rattle.geo_base.specs.declared.points.Row.{Row}
-use Rattle.page_codec.specs.declared.faults.PageFault.{PageFault}
-use Rattle.page_codec.specs.declared.faults.PageFault.TheVariants as page
+use Rattle.dev_model.specs.declared.page_faults.PageFault.{PageFault}
+use Rattle.dev_model.specs.declared.page_faults.PageFault.TheVariants as page
 use Rattle.page_codec.specs.declared.pages.TheConstants.{PAGE_BYTES}
-use Rattle.tree_shape.specs.Given.{given}
+use Rattle.dev_model.specs.Given.{given}
 use Rattle.device_pages.specs.ReadsMade.{reads_made}
 use Rattle.device_pages.specs.Claims.{MadeReads}
 use Rattle.device_pages.specs.Lending.{contents_of}

@@ -6,8 +6,8 @@ use Rattle.std.specs.FinMap as finite
 use Rattle.dev_model.specs.Counts.{Rose, next_count}
 use Rattle.geo_base.specs.declared.points.Point.{Point}
 use Rattle.geo_base.specs.declared.points.Row.{Row}
-use Rattle.page_codec.specs.declared.faults.PageFault.{PageFault}
-use Rattle.page_codec.specs.declared.faults.PageFault.TheVariants as page
+use Rattle.dev_model.specs.declared.page_faults.PageFault.{PageFault}
+use Rattle.dev_model.specs.declared.page_faults.PageFault.TheVariants as page
 use Rattle.table_model.specs.Table.{Table}
 use Rattle.wal_log.specs.Records.{key_of}
 use Rattle.wal_log.specs.declared.places.TheConstants.{MOST_RECORDS}

@@ -1,7 +1,7 @@
 -- The refusals of calls of the store, where reading pages was refused, and where a begin was.
 use Rattle.std.specs.Prelude.{ℕ}
-use Rattle.page_codec.specs.declared.faults.PageFault.{PageFault}
-use Rattle.page_codec.specs.declared.faults.PageFault.TheVariants as page
+use Rattle.dev_model.specs.declared.page_faults.PageFault.{PageFault}
+use Rattle.dev_model.specs.declared.page_faults.PageFault.TheVariants as page
 use Rattle.store_machine.specs.declared.events.Refusal.{Refusal}
 use Rattle.store_machine.specs.declared.events.Refusal.TheVariants.{Again, Fault, Full, Damaged, OutOfMemory}
 use Rattle.store_state.specs.declared.faults.BeginFault.{BeginFault}

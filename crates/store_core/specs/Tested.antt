@@ -6,7 +6,7 @@ use Rattle.dev_model.specs.declared.calls.DeviceAct.{DeviceAct}
 use Rattle.dev_model.specs.declared.calls.DeviceAct.TheVariants.{ReadAt}
 use Rattle.dev_model.specs.declared.calls.DeviceCall.{DeviceCall}
 use Rattle.page_codec.specs.declared.pages.TheConstants.{PAGE_BYTES}
-use Rattle.tree_shape.specs.Asked.{EndsWith}
+use Rattle.dev_model.specs.Asked.{EndsWith}
 use Rattle.device_pages.specs.Lending.{contents_of}
 use Rattle.primary_ix.specs.Pages.{IsTestedIn}
 use Rattle.primary_ix.specs.Damage.{IsDamagedIn}

@@ -7,9 +7,8 @@ ghost use Rattle.store_core.specs.Stores.{state_of};
 ghost use Rattle.store_core.specs.Tested.{TestsPages};
 
 use crate::store::Store;
-use dev_model::Device;
+use dev_model::{Device, PageFault};
 use kept_state::read_row;
-use page_codec::PageFault;
 use store_machine::{Got, Refusal};
 
 // The refusal of a call where reading pages was refused.

@@ -4,11 +4,11 @@ ghost use Rattle.std.specs.Prelude.{◌≡◌, ◌<◌, ◌≤◌, ◌∷◌, ve
 ghost use Rattle.store_state.specs.Lists.{extent_of, tree_of, extents_of, trees_of};
 
 use comp_dir::{MOST_LIVE, Slot};
-use page_codec::TreeRef;
 use primary_ix::PrimComp;
 use space_map::Extent;
 use std::alloc::{AllocError, Global};
 use std::marker::Model;
+use tree_shape::TreeRef;
 
 /// The components of the primary, the newest first, each with the number of its slot. There is room for as many as there
 /// may be, so that one more takes no memory.

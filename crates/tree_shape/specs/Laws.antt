@@ -3,5 +3,3 @@ pub mod Sizes
 pub mod Covers
 pub mod Numbers
 pub mod Places
-pub mod Writing
-pub mod Trail

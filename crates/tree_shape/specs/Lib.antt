@@ -1,4 +1,2 @@
-pub mod Asked
-pub mod Given
 pub mod Laws
 pub mod Shape

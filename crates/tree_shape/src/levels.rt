@@ -15,6 +15,15 @@ pub struct Shape {
     pub rows: u32,
 }
 
+/// The image of a list of rows that begins at a page of the device.
+#[derive(Clone, Copy, Debug, PartialEq, Eq)]
+pub struct TreeRef {
+    /// The page of the device at which it begins.
+    pub first: u32,
+    /// How many rows its list has.
+    pub rows: u32,
+}
+
 /// How many pages stand before a level, and how many it has.
 #[derive(Clone, Copy, Debug, PartialEq, Eq)]
 pub struct Level {

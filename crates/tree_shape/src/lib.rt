@@ -1,7 +1,6 @@
-//! The shape that trees on pages have in common: how many pages each level has and where they stand, and how a reader says
-//! which pages it asked for.
+//! The shape that trees on pages have in common: how many pages each level has and where they stand.
 #![tactic(auto)]
 
 mod levels;
 
-pub use levels::{Level, Shape, Spot};
+pub use levels::{Level, Shape, Spot, TreeRef};

@@ -5,10 +5,12 @@ ghost use Rattle.std.specs.Prelude.{◌≡◌, ◌<◌, ◌^◌, length};
 use crate::mem_pages::MemPages;
 use crate::primary_rows::{look, matter, numbered, scanned};
 use btree_image::{load_page, pages_for};
-use page_codec::{PAGE_BYTES, PageFault, TreeRef};
+use dev_model::PageFault;
+use page_codec::PAGE_BYTES;
 use primary_ix::PrimRow;
 use std::alloc::{AllocError, Global};
 use std::test::Fail;
+use tree_shape::TreeRef;
 
 /// The image of a list.
 fn image(alloc: Global, list: &[PrimRow]) -> Result<MemPages, AllocError>

@@ -7,12 +7,14 @@ use crate::mem_pages::MemPages;
 use crate::primary_rows::{look, numbered, scanned};
 use build_job::{BuildJob, Interval, JobPlan, JobStep};
 use comp_dir::Slot;
+use dev_model::PageFault;
 use geo_base::MOST_KEY;
-use page_codec::{PAGE_BYTES, PageFault, TreeRef};
+use page_codec::PAGE_BYTES;
 use primary_ix::need;
 use space_map::Extent;
 use std::alloc::{AllocError, Global};
 use std::test::Fail;
+use tree_shape::TreeRef;
 
 // The page at which each extent begins.
 const FIRST: u32 = 300;

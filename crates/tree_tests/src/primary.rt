@@ -6,11 +6,13 @@ ghost use Rattle.tree_tests.specs.declared.primary.TheConstants.{COMPONENTS};
 use crate::mem_pages::MemPages;
 use crate::primary_rows::{matter, row};
 use btree_image::TreeRow;
+use dev_model::PageFault;
 use mem_comp::{MemComp, MemView};
-use page_codec::{PAGE_BYTES, PageFault, TreeRef};
+use page_codec::PAGE_BYTES;
 use primary_ix::{PrimComp, PrimRow, PrimView, image_page, living_rows, lookup, lookup_disk, need};
 use std::alloc::{AllocError, Global};
 use std::test::Fail;
+use tree_shape::TreeRef;
 
 // Fifty-three keys, all at one coordinate but for one that is deleted.
 fn list_of_keys(alloc: Global, step: u64, x: u16, deleted: u64) -> Result<Vec<PrimRow>, AllocError>

@@ -3,10 +3,11 @@ ghost use Rattle.std.specs.Prelude.{◌≡◌, ◌≤◌, ◌^◌, vec_len, IfOk
 
 use crate::mem_pages::MemPages;
 use btree_image::{find, scan};
+use dev_model::PageFault;
 use geo_base::{Note, Point};
-use page_codec::{PageFault, TreeRef};
 use primary_ix::PrimRow;
 use std::alloc::{AllocError, Global};
+use tree_shape::TreeRef;
 
 /// A point and a note of one byte.
 pub fn matter(x: u16) -> Option<(Point, Note)> {

@@ -3,11 +3,13 @@
 ghost use Rattle.std.specs.Prelude.{◌≡◌, ◌<◌, ◌^◌, ℕ, length, IfOk};
 
 use crate::mem_pages::MemPages;
+use dev_model::PageFault;
 use geo_base::{Point, Rect};
-use page_codec::{PAGE_BYTES, PageFault, TreeRef};
+use page_codec::PAGE_BYTES;
 use rtree_image::{RtRow, load_page, pages_for, search};
 use std::alloc::{AllocError, Global};
 use std::test::Fail;
+use tree_shape::TreeRef;
 
 // Rows in columns of 100, each column with heights in a scattered order.
 fn columns(alloc: Global, count: u32) -> Result<Vec<RtRow>, AllocError>

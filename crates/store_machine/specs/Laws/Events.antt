@@ -9,7 +9,7 @@ use Rattle.dev_model.specs.DeviceCalls.{ok_calls}
 use Rattle.dev_model.specs.Laws.CallLists.{clock_of-after}
 use Rattle.dev_model.specs.Laws.Plans.{all_noted-told}
 use Rattle.dev_model.specs.declared.calls.DeviceCall.{DeviceCall}
-use Rattle.page_codec.specs.declared.faults.PageFault.{PageFault}
+use Rattle.dev_model.specs.declared.page_faults.PageFault.{PageFault}
 use Rattle.table_model.specs.Table.{Table}
 use Rattle.primary_ix.specs.declared.rows.PrimRow.{PrimRow}
 use Rattle.table_model.specs.Answers.{after_write}

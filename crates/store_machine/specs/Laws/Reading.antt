@@ -8,11 +8,11 @@ use Rattle.dev_model.specs.Laws.CallLists.{clock_of-after}
 use Rattle.dev_model.specs.declared.calls.DeviceCall.{DeviceCall}
 use Rattle.dev_model.specs.declared.calls.DeviceAct.TheVariants.{ReadAt}
 use Rattle.page_codec.specs.declared.pages.TheConstants.{PAGE_BYTES}
-use Rattle.page_codec.specs.declared.faults.PageFault.{PageFault}
-use Rattle.page_codec.specs.declared.faults.PageFault.TheVariants.{Failed, Damaged, OutOfMemory}
+use Rattle.dev_model.specs.declared.page_faults.PageFault.{PageFault}
+use Rattle.dev_model.specs.declared.page_faults.PageFault.TheVariants.{Failed, Damaged, OutOfMemory}
 use Rattle.table_model.specs.Table.{Table}
-use Rattle.tree_shape.specs.Asked.{GoesBy, given_but_last, reads_of}
-use Rattle.tree_shape.specs.Given.{given}
+use Rattle.dev_model.specs.Asked.{GoesBy, given_but_last, reads_of}
+use Rattle.dev_model.specs.Given.{given}
 use Rattle.device_pages.specs.Asked.{Asked, Seen, calls_of}
 use Rattle.device_pages.specs.ReadsMade.{reads_made}
 use Rattle.device_pages.specs.Claims.{MadeReads}

@@ -10,7 +10,7 @@ use Rattle.btree_image.proofs.Told.{tested_last}
 use Rattle.btree_image.specs.Descent.{place_of_key, descent}
 use Rattle.btree_image.proofs.Widths.{leaf_room, inner_room}
 use Rattle.tree_shape.specs.Laws.Places.{place_below, rows_above}
-use Rattle.tree_shape.specs.Laws.Trail.{goes-by, given-append, went-then, went-err}
+use Rattle.dev_model.specs.Laws.Trail.{goes-by, given-append, went-then, went-err}
 use Rattle.btree_image.proofs.Trail.{path_next, path_last, path_first, root_place}
 use Rattle.btree_image.proofs.descend.find.Goals as goal
 

@@ -6,7 +6,7 @@ use Rattle.btree_image.specs.Shown.{IsShown}
 use Rattle.btree_image.specs.Descent.{place_of_key, descent}
 use Rattle.btree_image.specs.Tested.{IsTested}
 use Rattle.dev_model.specs.Story.{WhereTold}
-use Rattle.tree_shape.specs.Given.{given}
+use Rattle.dev_model.specs.Given.{given}
 use Rattle.btree_image.proofs.descend.find.Given as goal
 
 abbrev pub invariant-loop-level : goal.invariant-loop-level

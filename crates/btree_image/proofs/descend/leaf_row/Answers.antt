@@ -2,7 +2,7 @@ use Rattle.std.proofs.Common.{arith, ◌∙◌, inl, inr, length}
 use Rattle.std.proofs.lemmas.Bool.{cases_lt}
 use Rattle.btree_image.proofs.Widths.{leaf_room, inner_room}
 use Rattle.btree_image.proofs.Told.{readable, shown_read, leaf_place, leaf_row-told, no_rows, damaged_at, tested_at}
-use Rattle.tree_shape.specs.Laws.Trail.{went-failed}
+use Rattle.dev_model.specs.Laws.Trail.{went-failed}
 use Rattle.btree_image.proofs.descend.leaf_row.Goals as goal
 
 pub returns-in-Err-clause-went : goal.returns-in-Err-clause-went

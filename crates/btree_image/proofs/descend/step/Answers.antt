@@ -8,7 +8,7 @@ use Rattle.btree_image.specs.Descent.{place_of_key}
 use Rattle.btree_image.proofs.Widths.{leaf_room, inner_room}
 use Rattle.tree_shape.specs.Laws.Places.{place_below}
 use Rattle.btree_image.proofs.Told.{place-inside, shown_read, tested_at}
-use Rattle.tree_shape.specs.Laws.Trail.{went-failed}
+use Rattle.dev_model.specs.Laws.Trail.{went-failed}
 use Rattle.btree_image.proofs.descend.step.Goals as goal
 
 pub returns-in-Err-clause-went : goal.returns-in-Err-clause-went

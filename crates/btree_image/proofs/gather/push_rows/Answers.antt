@@ -1,7 +1,7 @@
 use Rattle.std.proofs.Common.{◌≡◌, ◌-◌, ◌++◌, [], ◌∷◌, Some, map, take, drop, get_or, arith, refl, sym, ◌∙◌, ap, inr, append_assoc}
 use Rattle.std.proofs.lemmas.List.{map-append, append-nil}
 use Rattle.page_codec.specs.Page.{rows_on}
-use Rattle.tree_shape.specs.Laws.Writing.{length-rows_on}
+use Rattle.page_codec.specs.Laws.Writing.{length-rows_on}
 use Rattle.btree_image.proofs.Gathered.{rows-more, none-yet}
 use Rattle.btree_image.proofs.gather.push_rows.Goals as goal
 

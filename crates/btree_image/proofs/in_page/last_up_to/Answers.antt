@@ -1,6 +1,6 @@
 use Rattle.std.proofs.Common.{arith, ◌+◌, ◌-◌, ◌/◌, sym, ◌∙◌}
 use Rattle.page_codec.specs.Page.{rows_on}
-use Rattle.tree_shape.specs.Laws.Writing.{length-rows_on}
+use Rattle.page_codec.specs.Laws.Writing.{length-rows_on}
 use Rattle.btree_image.proofs.Halving.{at_or_behind, before_it}
 use Rattle.btree_image.proofs.in_page.last_up_to.Goals as goal
 

@@ -2,7 +2,7 @@ use Rattle.std.proofs.Common.{[], arith, sym, ◌∙◌, ap}
 use Rattle.std.specs.Prelude.{slice_index_or}
 use Rattle.page_codec.specs.Page.{rows_on}
 use Rattle.btree_image.specs.Steps.{row_at}
-use Rattle.tree_shape.specs.Laws.Writing.{length-rows_on}
+use Rattle.page_codec.specs.Laws.Writing.{length-rows_on}
 use Rattle.btree_image.proofs.Found.{row_at-other, row_at-same}
 use Rattle.btree_image.proofs.in_page.row_for.Goals as goal
 

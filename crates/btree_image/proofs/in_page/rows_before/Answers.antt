@@ -2,7 +2,7 @@ use Rattle.std.proofs.Common.{[], arith, sym, ◌∙◌}
 use Rattle.std.specs.Prelude.{slice_index_or}
 use Rattle.page_codec.specs.Page.{rows_on}
 use Rattle.btree_image.specs.Steps.{precedes}
-use Rattle.tree_shape.specs.Laws.Writing.{length-rows_on}
+use Rattle.page_codec.specs.Laws.Writing.{length-rows_on}
 use Rattle.btree_image.proofs.Halving.{counted, not_counted}
 use Rattle.btree_image.proofs.in_page.rows_before.Goals as goal
 

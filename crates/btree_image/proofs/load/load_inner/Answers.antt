@@ -5,12 +5,12 @@ use Rattle.std.specs.Int.{to_be_bytes, w32}
 use Rattle.page_codec.specs.Page.{row_width, most_rows, kind_of, row_count, ShowsRows}
 use Rattle.page_codec.specs.Written.{page_of}
 use Rattle.page_codec.specs.Adding.{AllOfWidth}
-use Rattle.page_codec.specs.Laws.{ShowsRows-page_of}
+use Rattle.page_codec.specs.Laws.Written.{ShowsRows-page_of}
 use Rattle.tree_shape.specs.Shape.{level_size, span, numbers, children_at}
 use Rattle.btree_image.specs.Image.{shape_of, level_rows, child_row}
 use Rattle.btree_image.proofs.Widths.{most_rows-least, leaf_room, inner_room}
-use Rattle.tree_shape.specs.Laws.Numbers.{length-numbers, children_at-numbers}
-use Rattle.tree_shape.specs.Laws.Writing.{kind_of-page_of, wide-snoc, one_more_number, room, get_at}
+use Rattle.tree_shape.specs.Laws.Numbers.{length-numbers, children_at-numbers, one_more_number}
+use Rattle.page_codec.specs.Laws.Writing.{kind_of-page_of, wide-snoc, room, get_at}
 use Rattle.tree_shape.specs.Laws.Places.{pages_fit, page_begins, first_row}
 use Rattle.btree_image.proofs.load.load_inner.Goals as goal
 

@@ -3,10 +3,10 @@ use Rattle.std.proofs.lemmas.List.{take_at, length-map}
 use Rattle.page_codec.specs.Page.{row_width, most_rows, kind_of, ShowsRows}
 use Rattle.page_codec.specs.Written.{page_of}
 use Rattle.page_codec.specs.Adding.{AllOfWidth, IsKind}
-use Rattle.page_codec.specs.Laws.{ShowsRows-page_of}
+use Rattle.page_codec.specs.Laws.Written.{ShowsRows-page_of}
 use Rattle.btree_image.specs.Image.{shape_of, level_rows}
 use Rattle.btree_image.proofs.Widths.{leaf_room, inner_room}
-use Rattle.tree_shape.specs.Laws.Writing.{kind_of-page_of, wide-snoc, room, one_more_row, all_rows}
+use Rattle.page_codec.specs.Laws.Writing.{kind_of-page_of, wide-snoc, room, one_more_row, all_rows}
 use Rattle.tree_shape.specs.Laws.Places.{page_within}
 use Rattle.btree_image.proofs.load.load_leaf.Goals as goal
 

@@ -2,7 +2,7 @@ use Rattle.std.proofs.Common.{◌≡◌, suc, ◌+◌, ◌<◌, [], ◌∷◌, �
 use Rattle.std.specs.Prelude.{Err}
 use Rattle.std.proofs.lemmas.List.{append-nil}
 use Rattle.std.proofs.lemmas.List.Elements.{All-append, All-cons, All-nil}
-use Rattle.tree_shape.specs.Laws.Trail.{went-err}
+use Rattle.dev_model.specs.Laws.Trail.{went-err}
 use Rattle.order_merge.specs.Ascending.{Ascends}
 use Rattle.primary_ix.specs.declared.component.PrimComp.{PrimComp}
 use Rattle.primary_ix.specs.declared.rows.PrimRow.{PrimRow}

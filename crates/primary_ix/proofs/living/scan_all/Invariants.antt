@@ -1,7 +1,7 @@
 use Rattle.std.proofs.Common.{◌≡◌, ℕ, ◌≤◌, List, ◌++◌, All, map, take, drop}
 use Rattle.std.specs.Prelude.{IsTrue}
 use Rattle.dev_model.specs.Story.{WhereTold}
-use Rattle.tree_shape.specs.Given.{given}
+use Rattle.dev_model.specs.Given.{given}
 use Rattle.order_merge.specs.Ascending.{Ascends}
 use Rattle.primary_ix.specs.declared.rows.PrimRow.{PrimRow}
 use Rattle.primary_ix.specs.Reading.{prim_reading}

@@ -1,7 +1,7 @@
 use Rattle.std.proofs.Common.{◌<◌, ◌++◌, ◌∙◌, arith, ap, map, length}
 use Rattle.std.specs.List.{filter}
 use Rattle.page_codec.specs.Page.{rows_on}
-use Rattle.tree_shape.specs.Laws.Writing.{length-rows_on, take_of_length-le}
+use Rattle.page_codec.specs.Laws.Writing.{length-rows_on, take_of_length-le}
 use Rattle.rtree_image.specs.Rows.{row_of}
 use Rattle.rtree_image.specs.Visits.{is_inside}
 use Rattle.rtree_image.proofs.Picked.{one_more_row}

@@ -5,12 +5,12 @@ use Rattle.std.specs.Int.{to_be_bytes, w32}
 use Rattle.page_codec.specs.Page.{row_width, kind_of, ShowsRows}
 use Rattle.page_codec.specs.Written.{page_of}
 use Rattle.page_codec.specs.Adding.{AllOfWidth, IsKind}
-use Rattle.page_codec.specs.Laws.{ShowsRows-page_of}
+use Rattle.page_codec.specs.Laws.Written.{ShowsRows-page_of}
 use Rattle.page_codec.specs.declared.kinds.TheConstants.{RTREE_INNER}
 use Rattle.tree_shape.specs.Shape.{level_size, numbers, children_at}
-use Rattle.tree_shape.specs.Laws.Numbers.{length-numbers, children_at-numbers}
+use Rattle.tree_shape.specs.Laws.Numbers.{length-numbers, children_at-numbers, one_more_number}
 use Rattle.tree_shape.specs.Laws.Places.{pages_fit, page_begins, first_row}
-use Rattle.tree_shape.specs.Laws.Writing.{kind_of-page_of, wide-snoc, one_more_number, room}
+use Rattle.page_codec.specs.Laws.Writing.{kind_of-page_of, wide-snoc, room}
 use Rattle.rtree_image.specs.Bounds.{bounding, bounds_bytes}
 use Rattle.rtree_image.specs.Image.{tree_of, level_rows, child_row, rows_below}
 use Rattle.rtree_image.proofs.load.load_inner.Goals as goal

@@ -3,10 +3,10 @@ use Rattle.std.proofs.lemmas.List.{length-map}
 use Rattle.page_codec.specs.Page.{row_width, kind_of, ShowsRows}
 use Rattle.page_codec.specs.Written.{page_of}
 use Rattle.page_codec.specs.Adding.{AllOfWidth, IsKind}
-use Rattle.page_codec.specs.Laws.{ShowsRows-page_of}
+use Rattle.page_codec.specs.Laws.Written.{ShowsRows-page_of}
 use Rattle.page_codec.specs.declared.kinds.TheConstants.{RTREE_LEAF}
 use Rattle.tree_shape.specs.Laws.Places.{page_within}
-use Rattle.tree_shape.specs.Laws.Writing.{kind_of-page_of, wide-snoc, all_rows, room}
+use Rattle.page_codec.specs.Laws.Writing.{kind_of-page_of, wide-snoc, all_rows, room}
 use Rattle.rtree_image.specs.declared.rows.RtRow.{RtRow}
 use Rattle.rtree_image.specs.Rows.{row_bytes}
 use Rattle.rtree_image.specs.Image.{tree_of, level_rows}

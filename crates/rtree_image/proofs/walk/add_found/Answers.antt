@@ -6,7 +6,7 @@ use Rattle.std.proofs.lemmas.List.Elements.{All-append, All-nil}
 use Rattle.geo_base.specs.Corners.{Corners}
 use Rattle.tree_shape.specs.declared.levels.Shape.{Shape}
 use Rattle.tree_shape.specs.Shape.{level_size}
-use Rattle.tree_shape.specs.Asked.{GoesBy}
+use Rattle.dev_model.specs.Asked.{GoesBy}
 use Rattle.tree_shape.specs.Laws.Places.{root_unique}
 use Rattle.rtree_image.specs.declared.rows.RtRow.{RtRow}
 use Rattle.rtree_image.specs.Image.{tree_of, rows_below, IsShown, page_number}

@@ -1,7 +1,7 @@
 use Rattle.std.proofs.Common.{ℕ, suc, ◌*◌, ◌<◌, ◌++◌, arith, lit≤, ◌∙◌, ap}
 use Rattle.std.proofs.Math.Numerals.{add-one}
 use Rattle.tree_shape.specs.Laws.Places.{number_fits, place_below}
-use Rattle.tree_shape.specs.Laws.Trail.{went-failed}
+use Rattle.dev_model.specs.Laws.Trail.{went-failed}
 use Rattle.rtree_image.specs.Image.{tree_of}
 use Rattle.rtree_image.proofs.Ascending.{within-filter, within-higher}
 use Rattle.rtree_image.proofs.Shown.{children_told, inner_sound, shown_read, tested_at}

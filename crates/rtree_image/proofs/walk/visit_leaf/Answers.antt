@@ -1,6 +1,6 @@
 use Rattle.std.proofs.Common.{◌++◌, ◌∙◌, ap}
 use Rattle.page_codec.specs.declared.kinds.TheConstants.{RTREE_LEAF}
-use Rattle.tree_shape.specs.Laws.Trail.{went-failed}
+use Rattle.dev_model.specs.Laws.Trail.{went-failed}
 use Rattle.rtree_image.specs.Image.{tree_of}
 use Rattle.rtree_image.specs.Visits.{rows_inside}
 use Rattle.rtree_image.proofs.Shown.{leaf_told, shown_read}

@@ -1,6 +1,6 @@
 use Rattle.std.proofs.Common.{suc, ◌++◌, take, map, get_or, All, arith, sym, ◌∙◌, ap, subst, append_assoc}
 use Rattle.std.specs.List.{flat_map}
-use Rattle.tree_shape.specs.Laws.Writing.{take_of_length-le}
+use Rattle.page_codec.specs.Laws.Writing.{take_of_length-le}
 use Rattle.rtree_image.specs.Image.{tree_of, rows_below, IsShown, page_number}
 use Rattle.rtree_image.specs.Damage.{IsTestedFor}
 use Rattle.rtree_image.specs.Visits.{rows_inside}

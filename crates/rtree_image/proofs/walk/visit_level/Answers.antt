@@ -1,7 +1,7 @@
 use Rattle.std.proofs.Common.{ℕ, suc, ◌*◌, ◌≤◌, ◌++◌, List, map, min, get_or, All, arith, refl, sym, ◌∙◌, ap, subst}
 use Rattle.std.proofs.lemmas.List.Elements.{All-nil}
 use Rattle.tree_shape.specs.Shape.{level_size}
-use Rattle.tree_shape.specs.Laws.Writing.{take_of_length-le}
+use Rattle.page_codec.specs.Laws.Writing.{take_of_length-le}
 use Rattle.rtree_image.specs.Image.{tree_of, IsShown, page_number, AreLent}
 use Rattle.rtree_image.specs.Damage.{IsTestedFor}
 use Rattle.rtree_image.specs.Steps.{AscendWithin, children_met}

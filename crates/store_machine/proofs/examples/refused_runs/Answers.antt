@@ -1,6 +1,6 @@
 use Rattle.std.proofs.Common.{◌≡◌, ℕ, zero, suc, ◌<◌, true, List, [], ◌∷◌, ◌++◌, length, get_or, Option, Some, None, refl, sym, ◌∙◌, ap, arith}
 use Rattle.dev_model.specs.declared.calls.DeviceCall.{DeviceCall}
-use Rattle.tree_shape.specs.Given.{given}
+use Rattle.dev_model.specs.Given.{given}
 use Rattle.tree_shape.specs.Shape.{IsRoot, level_size, level_start}
 use Rattle.device_pages.specs.ReadsMade.{reads_made}
 use Rattle.geo_base.specs.declared.points.Row.{Row}

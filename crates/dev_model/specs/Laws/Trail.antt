@@ -3,10 +3,10 @@ use Rattle.std.proofs.Common.{◌≡◌, ℕ, Bool, true, false, List, [], ◌�
 use Rattle.std.specs.Prelude.{Result, Ok, Err, IsTrue}
 use Rattle.std.proofs.lemmas.List.Elements.{All-append, All-cons}
 use Rattle.std.proofs.lemmas.List.{append-nil}
-use Rattle.page_codec.specs.declared.faults.PageFault.{PageFault}
-use Rattle.page_codec.specs.declared.faults.PageFault.TheVariants.{Failed, Damaged, OutOfMemory}
-use Rattle.tree_shape.specs.Asked.{given_but_last, reads_of, EndsWith, StopsAt, GoesBy, Went}
-use Rattle.tree_shape.specs.Given.{given}
+use Rattle.dev_model.specs.declared.page_faults.PageFault.{PageFault}
+use Rattle.dev_model.specs.declared.page_faults.PageFault.TheVariants.{Failed, Damaged, OutOfMemory}
+use Rattle.dev_model.specs.Asked.{given_but_last, reads_of, EndsWith, StopsAt, GoesBy, Went}
+use Rattle.dev_model.specs.Given.{given}
 
 pub given-append : (seen more : List ℕ) → given (seen ++ more) ≡ given seen ++ given more
 given-append [] more = refl

@@ -5,8 +5,7 @@ use Rattle.std.proofs.lemmas.List.{take_more, map-append}
 use Rattle.page_codec.specs.Page.{most_rows, kind_of, row_count, rows_in, rows_on}
 use Rattle.page_codec.specs.Written.{page_of}
 use Rattle.page_codec.specs.Adding.{AllOfWidth}
-use Rattle.page_codec.specs.Laws.{row_count-page_of}
-use Rattle.tree_shape.specs.Shape.{numbers}
+use Rattle.page_codec.specs.Laws.Written.{row_count-page_of}
 
 length-rows_in : (w n : ℕ) (xs : List ℕ) → length (rows_in w n xs) ≡ n
 unfolding rows_in
@@ -29,19 +28,6 @@ kind_of-page_of kind level rows = refl
 pub wide-snoc : (width : ℕ) (rows : List (List ℕ)) (row : List ℕ) → AllOfWidth width rows → length row ≡ width → AllOfWidth width (rows ++ row ∷ [])
 wide-snoc width [] row wide e = (e, tt)
 wide-snoc width (first ∷ rows) row wide e = (wide.0, wide-snoc width rows row wide.1 e)
-
-pub numbers-snoc : (from n : ℕ) → numbers from (suc n) ≡ numbers from n ++ (from + n) ∷ []
-unfolding numbers
-numbers-snoc from zero = let e : from + 0 ≡ from = omega arith in rw e refl
-numbers-snoc from (suc n) = let e : from + suc n ≡ suc from + n = omega arith in rw e (ap (λ ns. from ∷ ns) (numbers-snoc (suc from) n))
-
-pub one_more_number : (f : ℕ → List ℕ) (from child : ℕ) → from ≤ child
-    → map f (numbers from (child + 1 - from)) ≡ map f (numbers from (child - from)) ++ f child ∷ []
-one_more_number f from child h =
-    let e : child + 1 - from ≡ suc (child - from) = omega arith in
-    let here : from + (child - from) ≡ child = omega arith in
-    rw e (ap (map f) (numbers-snoc from (child - from)) ∙ (map-append f (numbers from (child - from)) ((from + (child - from)) ∷ [])
-    ∙ ap (λ c. map f (numbers from (child - from)) ++ f c ∷ []) here))
 
 module _ {T : Type 0} (f : T → List ℕ) (rows : List T) where
   pub one_more_row : (from i : ℕ) (row : T) → from ≤ i → i < length rows → row ≡ get_or rows i row
