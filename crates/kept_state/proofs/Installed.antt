@@ -43,7 +43,7 @@ use Rattle.component_image.specs.Laid.{table_of}
 use Rattle.component_image.specs.Recovered.{primary_of}
 use Rattle.component_image.specs.Resting.{Rests}
 use Rattle.component_image.specs.Standing.{MayStand}
-use Rattle.store_steps.specs.Steps.{IsWritten}
+use Rattle.kept_state.specs.Steps.{IsWritten}
 use Rattle.store_state.specs.declared.jobs.JobRow.{JobRow}
 use Rattle.store_state.specs.Lists.{Lists, frozen_rows, open_of, placed_up_to, job_of}
 use Rattle.store_state.specs.EveryList.{IsCut, IsLists, IsOpenSlot, IsPlanned, IsPlannedIf}

@@ -3,10 +3,13 @@ mod Begun
 mod Counting
 mod Few
 mod Found
+mod Free
 mod Froze
 mod Installed
 mod Lent
+mod LogSteps
 mod Logged
+mod Opening
 mod Stays
 mod Went
 mod Written

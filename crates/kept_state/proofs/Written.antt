@@ -34,7 +34,7 @@ use Rattle.component_image.specs.Resting.{Rests}
 use Rattle.component_image.specs.Laws.Agreeing.{AgreeBeside, primaries, ShowAll-same}
 use Rattle.component_image.specs.Laws.Resting.{beside-agrees}
 use Rattle.component_image.specs.Laws.Showing.{same_lists_shown}
-use Rattle.store_steps.specs.Steps.{IsFree, HasPage}
+use Rattle.kept_state.specs.Steps.{IsFree, HasPage}
 use Rattle.store_state.specs.declared.jobs.JobRow.{JobRow}
 use Rattle.store_state.specs.Lists.{Lists, extent_of, extents_of, open_of, placed_up_to, job_of}
 use Rattle.store_state.specs.EveryList.{IsLists, IsPlanned, IsPlannedIf}

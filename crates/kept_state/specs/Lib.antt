@@ -4,4 +4,5 @@ pub mod Laws
 pub mod Numbered
 pub mod OnlyRead
 pub mod Reading
+pub mod Steps
 pub mod Writing

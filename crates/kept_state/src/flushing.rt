@@ -22,13 +22,14 @@ ghost use Rattle.kept_state.specs.Keeping.{IsKept};
 ghost use Rattle.kept_state.specs.Numbered.{IsNumbered};
 ghost use Rattle.kept_state.specs.Reading.{IsLegible};
 
+use crate::installing::install_component;
 use crate::laws::{jobs_have_rules, lists_have_rules};
+use crate::pages::write_page;
 use build_job::{BuildJob, JobStep};
 use comp_dir::{LSN_LIMIT, SLOT_BYTES};
 use dev_model::{Device, Failed};
 use page_codec::PAGE_BYTES;
 use store_state::State;
-use store_steps::{install_component, write_page};
 
 /// Writes the page that the job wants next, in one write, and counts it; it isn't synced. The job has a page left, and is the
 /// one that was begun. Where the write fails, lists and job are as before.

@@ -2,8 +2,11 @@
 #![tactic(auto)]
 
 mod flushing;
+mod installing;
 mod laws;
 mod legible;
+mod logging;
+mod pages;
 mod reading;
 mod writing;
 

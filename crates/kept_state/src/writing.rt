@@ -25,11 +25,11 @@ ghost use Rattle.kept_state.specs.Reading.{IsLegible};
 ghost use Rattle.kept_state.specs.Writing.{next_record};
 
 use crate::laws::lists_have_rules;
+use crate::logging::{append_record, change_segments};
 use dev_model::{Device, Failed};
 use geo_base::{Note, Point};
 use image_model::{LOG_PAGES, LOG_START};
 use store_state::State;
-use store_steps::{append_record, change_segments};
 use wal_log::{LOG_BYTES, LSN_LIMIT, Log, LogOp, MOST_RECORDS, Record};
 
 /// Logs a write, and then lays its row in memory, where there has to be room. It answers the device's clock from which on each

@@ -4,7 +4,7 @@ ghost use Rattle.comp_dir.specs.declared.places.TheConstants.{SLOTS};
 ghost use Rattle.image_model.specs.declared.places.TheConstants.{LOG_START};
 ghost use Rattle.wal_log.specs.Counted.{IsCounted};
 
-use comp_dir::{SLOTS, Slot};
+use comp_dir::{SLOTS, Slot, install_slot};
 use dev_model::Device;
 use device_format::superblock_bytes;
 use geo_base::{IndexSet, Note, Point, Row};
@@ -13,7 +13,6 @@ use mem_device::MemDevice;
 use std::alloc::Global;
 use std::test::Fail;
 use store_opening::{OpenFault, open_state};
-use store_steps::{append_record, change_segments, install_component};
 use wal_log::{LSN_LIMIT, Log, LogOp, MOST_RECORDS, Record, start_segment};
 
 /// The first page behind the log.
@@ -106,7 +105,7 @@ fn put(device: &mut MemDevice, log: &mut Log, key: u64) -> Option<()>
         op: LogOp::Put(row),
         old_point: None,
     };
-    append_record(device, log, &logged).ok()?;
+    log.append(device, &logged).ok()?;
     Some(())
 }
 
@@ -122,7 +121,7 @@ fn turn(device: &mut MemDevice, log: &mut Log) -> Option<()>
     if log.records == 0 {
         return None;
     }
-    change_segments(device, log).ok()
+    log.next_segment(device).ok()
 }
 
 /// Installs a component of the primary on the page from 265 on that is numbered as its slot, with so many writes, of which
@@ -145,7 +144,7 @@ fn install(device: &mut MemDevice, slot: u16, writes: u32) -> Option<()>
         filter_bits: 0,
         table_rows: u64::from(writes),
     };
-    install_component(device, slot, &component).ok()
+    install_slot(device, slot, &component).ok()
 }
 
 /// A device with this image.

@@ -20,7 +20,7 @@ use Rattle.component_image.specs.Beside.{IsBeside}
 use Rattle.component_image.specs.Resting.{Rests}
 use Rattle.component_image.specs.Laws.Apart.{segments-apart, directory-apart}
 use Rattle.component_image.specs.Laws.Keeping.{elsewhere-images, elsewhere-rests}
-use Rattle.store_steps.specs.Steps.{IsFree, HasPage}
+use Rattle.kept_state.specs.Steps.{IsFree, HasPage}
 
 -- it is looked at by no opening
 free-beside : (page : ℕ) (bytes : Bytes) → 265 ≤ page → IsFree page bytes → (i : ℕ) → IsBeside bytes i → IsOutside (page * 4096) 4096 i

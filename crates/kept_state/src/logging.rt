@@ -27,7 +27,7 @@ use image_model::{LOG_PAGES, LOG_START};
 use wal_log::{LOG_BYTES, LSN_LIMIT, Log, MOST_RECORDS, Record};
 
 /// Logs a write of the store. It answers the device's clock from which on each crash leaves it.
-pub fn append_record<D: Device>(
+pub(crate) fn append_record<D: Device>(
     device: &mut D,
     log: &mut Log,
     logged: &Record,
@@ -75,7 +75,7 @@ pub fn append_record<D: Device>(
 
 /// Goes on in the next segment of the log, so that the records of the one before can be frozen. The components of the primary
 /// have to end where that one begins.
-pub fn change_segments<D: Device>(device: &mut D, log: &mut Log) -> Result<(), Failed>
+pub(crate) fn change_segments<D: Device>(device: &mut D, log: &mut Log) -> Result<(), Failed>
     requires start { log.old.start ≡ LOG_START }
     requires some { 1 ≤ log.old.records }
     requires pages { LOG_PAGES ≤ D.pages device.old }

@@ -33,7 +33,7 @@ use Rattle.component_image.specs.Laws.Keeping.{elsewhere-images, elsewhere-rests
 use Rattle.component_image.specs.Laws.Resting.{content-behind, beside-agrees}
 use Rattle.component_image.specs.Laws.Standing.{may-stay}
 use Rattle.component_image.specs.Laws.Opened.{opened-images, opened-rests}
-use Rattle.store_steps.specs.Steps.{IsWritten}
+use Rattle.kept_state.specs.Steps.{IsWritten}
 
 -- what can be read can be read behind calls that spare it
 readable_with : (s : Story) (call : Call) (i : ℕ) → IsSpared call i → IsReadable s.past i → IsReadable (with_call s call).past i

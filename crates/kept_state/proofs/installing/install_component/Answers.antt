@@ -2,8 +2,8 @@ use Rattle.std.proofs.Common.{[], ◌∷◌, ◌∙◌}
 use Rattle.dev_model.specs.Story.{Sync}
 use Rattle.dev_model.specs.Laws.Frame.{WritesWithin-did}
 use Rattle.dev_model.specs.Laws.Plans.{Did-call}
-use Rattle.store_steps.proofs.Opening.{slot-leaves, unsynced-leaves, opened-leaves, installed-rests, installed-placed, slot-within, synced-within, installed-within, slot-segments, installed-directory}
-use Rattle.store_steps.proofs.installing.install_component.Goals as goal
+use Rattle.kept_state.proofs.Opening.{slot-leaves, unsynced-leaves, opened-leaves, installed-rests, installed-placed, slot-within, synced-within, installed-within, slot-segments, installed-directory}
+use Rattle.kept_state.proofs.installing.install_component.Goals as goal
 
 pub returns-in_err-write_slot-clause-within : goal.returns-in_err-write_slot-clause-within
 returns-in_err-write_slot-clause-within g c s is = slot-within c.args.n s (g.D.Device.story c.write_slot.new.device) (c.write_slot.ensures.within s is)

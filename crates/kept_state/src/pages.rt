@@ -11,7 +11,7 @@ ghost use Rattle.wal_log.specs.declared.log.Log.{Log};
 ghost use Rattle.comp_dir.specs.Directory.{directory_of};
 ghost use Rattle.component_image.specs.Recovered.{Recovers};
 ghost use Rattle.component_image.specs.Resting.{Rests};
-ghost use Rattle.store_steps.specs.Steps.{IsFree, HasPage};
+ghost use Rattle.kept_state.specs.Steps.{IsFree, HasPage};
 
 use comp_dir::FIRST_DATA_PAGE;
 use dev_model::{Device, Failed};
@@ -20,7 +20,7 @@ use page_codec::PAGE_BYTES;
 
 /// Writes a page behind the log, in one write, and doesn't sync. Where no component has the page, each crash at each moment
 /// leaves the table, and the store stays at rest, also where the write fails.
-pub fn write_page<D: Device>(
+pub(crate) fn write_page<D: Device>(
     device: &mut D,
     page: u32,
     bytes: &[u8; PAGE_BYTES],

@@ -1,6 +1,6 @@
 use Rattle.std.proofs.Common.{arith}
-use Rattle.store_steps.proofs.Free.{page-leaves, page-rests, page-within, page-written, page-directory, page-segments}
-use Rattle.store_steps.proofs.pages.write_page.Goals as goal
+use Rattle.kept_state.proofs.Free.{page-leaves, page-rests, page-within, page-written, page-directory, page-segments}
+use Rattle.kept_state.proofs.pages.write_page.Goals as goal
 
 pub returns-clause-within : goal.returns-clause-within
 returns-clause-within g c s is = page-within c.args.page _ c.args.bytes.now s _ _ c.write.result (omega (arith, c.from.ensures)) (assumption (c.fits-bytes)) is c.write.ensures.told

@@ -17,7 +17,7 @@ ghost use Rattle.primary_ix.specs.declared.rows.PrimRow.{PrimRow};
 ghost use Rattle.component_image.specs.Recovered.{primary_of, Recovers};
 ghost use Rattle.component_image.specs.Resting.{Rests};
 ghost use Rattle.component_image.specs.Standing.{MayStand};
-ghost use Rattle.store_steps.specs.Steps.{IsWritten};
+ghost use Rattle.kept_state.specs.Steps.{IsWritten};
 
 use comp_dir::{SLOT_BYTES, SLOTS, Slot, open_gate, write_slot};
 use dev_model::{Device, Failed};
@@ -25,7 +25,7 @@ use image_model::{LOG_PAGES, LOG_START};
 
 /// Installs a component whose pages are written: writes its slot, syncs, opens the slot's gate and syncs. It stops at the call
 /// that fails. The first sync puts the pages on the disk too, so a component is open only where its pages are.
-pub fn install_component<D: Device>(device: &mut D, n: u16, slot: &Slot) -> Result<(), Failed>
+pub(crate) fn install_component<D: Device>(device: &mut D, n: u16, slot: &Slot) -> Result<(), Failed>
     requires below { n < SLOTS }
     requires pages { LOG_PAGES ≤ D.pages device.old }
 

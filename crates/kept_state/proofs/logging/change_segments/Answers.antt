@@ -1,5 +1,5 @@
-use Rattle.store_steps.proofs.Logged.{turn-within, logged-directory, turn-leaves, turn-rest, turn-later}
-use Rattle.store_steps.proofs.logging.change_segments.Goals as goal
+use Rattle.kept_state.proofs.LogSteps.{turn-within, logged-directory, turn-leaves, turn-rest, turn-later}
+use Rattle.kept_state.proofs.logging.change_segments.Goals as goal
 
 pub returns-in_err-next_segment-clause-within : goal.returns-in_err-next_segment-clause-within
 returns-in_err-next_segment-clause-within g c s is = turn-within c.args.log.now s (g.D.Device.story c.next_segment.new.device) c.requires.start (c.next_segment.ensures.within s is)

@@ -1,5 +1,5 @@
-use Rattle.store_steps.proofs.Logged.{append-within, logged-directory, append-leaves, append-rest, append-later}
-use Rattle.store_steps.proofs.logging.append_record.Goals as goal
+use Rattle.kept_state.proofs.LogSteps.{append-within, logged-directory, append-leaves, append-rest, append-later}
+use Rattle.kept_state.proofs.logging.append_record.Goals as goal
 
 pub returns-in_err-ack-clause-within : goal.returns-in_err-ack-clause-within
 returns-in_err-ack-clause-within g c s is = append-within c.args.log.now s (g.D.Device.story c.append.new.device) c.requires.start c.requires.room (c.append.ensures.within s is)

@@ -1,4 +1,4 @@
--- What is asked of the places at which a store writes.
+-- What is asked of the places at which a store writes. No public contract needs it.
 use Rattle.std.specs.Prelude.{◌≡◌, ◌+◌, ◌*◌, ◌<◌, ◌≤◌, ℕ, List}
 use Rattle.dev_model.specs.Story.{Bytes, Story, bytes_of, IsReadable, IsOutside}
 use Rattle.page_codec.specs.declared.pages.TheConstants.{PAGE_BYTES}
