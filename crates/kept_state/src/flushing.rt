@@ -120,6 +120,6 @@ pub fn install_job<D: Device>(
     jobs_have_rules(job);
     let slot = job.slot();
     install_component(device, job.plan().slot, &slot)?;
-    state.install();
+    state.install(slot);
     Ok(())
 }

@@ -79,29 +79,11 @@ installed-IsLists l row lists planned is below = record {
   planned = tt;
 }
 
--- the slot of a job, of these numbers
-abbrev pub slot_with : Lists → JobRow → (placed count : ℕ) → Slot
-slot_with l row placed count = record {
-  index = PRIMARY;
-  first = row.plan.extent.first;
-  pages = row.plan.extent.pages;
-  first_lsn = placed + 1;
-  last_lsn = l.cut;
-  main_rows = count;
-  second_rows = 0;
-  second_at = 0;
-  filter_at = 0;
-  filter_bits = 0;
-  table_rows = l.cut_rows;
-}
-
--- the same as the code has it
-pub installed-as : (l : Lists) (row : JobRow) (components : List Numbered) (placed count : ℕ) → IsLists l → l.job ≡ Some row → l.cut < LSN_LIMIT
-    → placed ≡ placed_up_to l.components → count ≡ length (frozen_rows l.frozen)
-    → components ≡ (row.plan.slot, slot_with l row placed count) ∷ l.components → IsLists (record (installed row l) { components = components })
-installed-as l row components placed count lists is below from rows to =
-    let same : components ≡ (row.plan.slot, described (job_of l row)) ∷ l.components =
-    to ∙ (λ i. (row.plan.slot, slot_with l row (from i) (rows i)) ∷ l.components) in
+-- and so are the lists to which its slot is handed
+pub installed-as : (l : Lists) (row : JobRow) (components : List Numbered) (slot : Slot) → IsLists l → l.job ≡ Some row → l.cut < LSN_LIMIT
+    → slot ≡ described (job_of l row) → components ≡ (row.plan.slot, slot) ∷ l.components → IsLists (record (installed row l) { components = components })
+installed-as l row components slot lists is below slot_is to =
+    let same : components ≡ (row.plan.slot, described (job_of l row)) ∷ l.components = to ∙ ap (λ (s : Slot). (row.plan.slot, s) ∷ l.components) slot_is in
     subst (λ (all : List Numbered). IsLists (record (installed row l) { components = all })) (sym same)
     (installed-IsLists l row lists (job-IsPlanned l row lists is) is below)
 

@@ -5,7 +5,8 @@ ghost use Rattle.comp_dir.specs.Choosing.{shares_page};
 ghost use Rattle.primary_ix.specs.Pages.{AreAllLent};
 ghost use Rattle.primary_ix.specs.Lookups.{in_memory};
 ghost use Rattle.space_map.specs.Space.{end_of, is_reserved};
-ghost use Rattle.store_state.specs.Lists.{trees_of, extents_of, frozen_rows, placed_up_to};
+ghost use Rattle.build_job.specs.Jobs.{described};
+ghost use Rattle.store_state.specs.Lists.{trees_of, extents_of, frozen_rows, job_of, placed_up_to};
 ghost use Rattle.store_state.specs.EveryList.{IsLists, IsOpenSlot};
 ghost use Rattle.store_state.specs.NextPage.{HasPageLeft, IsAllWritten};
 ghost use Rattle.store_state.specs.Opened.{placed_rows, opened};
@@ -15,7 +16,7 @@ ghost use Rattle.store_state.specs.Steps.{rows_with, added, frozen_at, one_writt
 use crate::components::Components;
 use crate::faults::BeginFault;
 use crate::jobs::JobRow;
-use crate::planning::{copied, count_of, image_pages, slot_for};
+use crate::planning::{copied, image_pages, slot_for};
 use crate::space::space_of;
 use build_job::{BuildJob, Interval, JobPlan};
 use comp_dir::{LSN_LIMIT, MOST_LIVE, PRIMARY, Slot};
@@ -247,29 +248,17 @@ impl State {
         }
     }
 
-    /// Puts the job's component before the others, in the place of the frozen list. All of its pages are written. It takes no
-    /// memory.
-    pub fn install(&mut self)
+    /// Puts the job's component before the others, in the place of the frozen list, by the slot that the job has of it. All of
+    /// its pages are written. It takes no memory.
+    pub fn install(&mut self, slot: Slot)
         requires written { IsAllWritten self.old.0.job }
         requires below { self.old.0.cut < LSN_LIMIT }
+        requires described { (row : JobRow) → self.old.0.job ≡ Some row → slot ≡ described (job_of self.old.0 row) }
         ensures lists { (row : JobRow) → self.old.0.job ≡ Some row → self.new.0 ≡ installed row self.old.0 }
         ensures room { self.new.1 ≡ self.old.1 }
         ensures sound { IsLists self.new.0 }
     {
         if let Some(row) = self.job {
-            let slot = Slot {
-                index: PRIMARY,
-                first: row.plan.extent.first,
-                pages: row.plan.extent.pages,
-                first_lsn: placed_up_to(self.components.slots()) + 1,
-                last_lsn: self.cut,
-                main_rows: count_of(&self.frozen) as u32,
-                second_rows: 0,
-                second_at: 0,
-                filter_at: 0,
-                filter_bits: 0,
-                table_rows: self.cut_rows,
-            };
             self.components.add(row.plan.slot, slot);
             self.frozen = None;
             self.job = None;
@@ -348,6 +337,13 @@ impl State {
         ensures { result ≡ self.now.0.cut }
     {
         self.cut
+    }
+
+    /// The rows that the table had after that write.
+    pub fn cut_rows(&self) -> u64
+        ensures { result ≡ self.now.0.cut_rows }
+    {
+        self.cut_rows
     }
 
     /// The number of the last write that the components have, 0 where there are none.
