@@ -1,9 +1,13 @@
 // The lists of a store without its device: a change of them, and what it leaves.
 
-use comp_dir::LSN_LIMIT;
+ghost use Rattle.std.specs.Prelude.{◌≡◌, IfSome};
+ghost use Rattle.build_job.specs.Jobs.{described};
+ghost use Rattle.store_state.specs.Lists.{job_of};
+
+use comp_dir::{LSN_LIMIT, PRIMARY, Slot};
 use geo_base::{Note, Point};
 use std::alloc::Global;
-use store_state::{BeginFault, State};
+use store_state::{BeginFault, JobRow, State};
 
 #[derive(Clone, Copy, Debug)]
 pub enum Change {
@@ -76,13 +80,38 @@ fn write(state: &mut State) {
     }
 }
 
+/// The slot of this job's component, by what the lists say.
+fn slot_of(state: &State, row: &JobRow) -> Option<Slot>
+    ensures { IfSome result (λ slot. slot ≡ described (job_of state.now.0 row.now)) }
+{
+    let rows = match state.frozen() {
+        Some(list) => list.len(),
+        None => 0,
+    };
+    Some(Slot {
+        index: PRIMARY,
+        first: row.plan.extent.first,
+        pages: row.plan.extent.pages,
+        first_lsn: state.placed().checked_add(1)?,
+        last_lsn: state.cut(),
+        main_rows: u32::try_from(rows).ok()?,
+        second_rows: 0,
+        second_at: 0,
+        filter_at: 0,
+        filter_bits: 0,
+        table_rows: state.cut_rows(),
+    })
+}
+
 fn install(state: &mut State) {
-    if state.cut() < LSN_LIMIT {
-        if let Some(row) = state.job() {
-            if row.written == row.plan.extent.pages {
-                state.install();
-            }
-        }
+    let Some(row) = state.job() else {
+        return;
+    };
+    if state.cut() >= LSN_LIMIT || row.written != row.plan.extent.pages {
+        return;
+    }
+    if let Some(slot) = slot_of(state, &row) {
+        state.install(slot);
     }
 }
 

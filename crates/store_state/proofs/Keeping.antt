@@ -9,7 +9,7 @@ use Rattle.space_map.specs.Calls.{IsSpace}
 use Rattle.space_map.specs.declared.space.TheConstants.{LEAST_PAGES, MOST_PAGES}
 use Rattle.order_merge.specs.laws.Adding.{Ascends-with_entry, All-with_entry}
 use Rattle.comp_dir.specs.Directory.{Numbered}
-use Rattle.comp_dir.specs.declared.places.TheConstants.{LSN_LIMIT, MOST_LIVE, PRIMARY}
+use Rattle.comp_dir.specs.declared.places.TheConstants.{LSN_LIMIT, MOST_LIVE}
 use Rattle.comp_dir.specs.declared.slots.Slot.{Slot}
 use Rattle.primary_ix.specs.Kinds.{prim_key_order}
 use Rattle.primary_ix.specs.Rows.{prim_layout}
@@ -18,7 +18,7 @@ use Rattle.primary_ix.specs.declared.rows.PrimRow.{PrimRow}
 use Rattle.build_job.specs.Jobs.{described}
 use Rattle.store_state.specs.declared.jobs.JobRow.{JobRow}
 use Rattle.store_state.specs.Laws.Planned.{job-IsPlanned, planned-IsSound}
-use Rattle.store_state.specs.Lists.{Lists, job_of, extents_of, open_of, frozen_rows, placed_up_to}
+use Rattle.store_state.specs.Lists.{Lists, job_of, extents_of, open_of}
 use Rattle.store_state.specs.EveryList.{IsLists, IsPlanned, IsPlannedIf, IsOpenSlot, job_extents}
 use Rattle.store_state.specs.Opened.{opened}
 use Rattle.store_state.specs.Steps.{installed}
