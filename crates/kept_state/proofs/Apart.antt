@@ -15,9 +15,9 @@ use Rattle.device_pages.specs.LentPlaces.{IsLentPlace}
 use Rattle.primary_ix.specs.declared.rows.PrimRow.{PrimRow}
 use Rattle.store_state.specs.Lists.{Lists, extent_of, extents_of}
 use Rattle.store_state.specs.EveryList.{IsLists, IsOpenSlot}
-use Rattle.kept_state.specs.Reading.{IsLegible}
-use Rattle.kept_state.specs.Laws.ReadingPages.{one_or_other, components-open}
-use Rattle.kept_state.specs.Laws.ReadingStays.{legible-within}
+use Rattle.store_state.specs.Reading.{IsLegible}
+use Rattle.store_state.specs.Laws.ReadingPages.{one_or_other, components-open}
+use Rattle.store_state.specs.Laws.ReadingStays.{legible-within}
 
 behind : (pages : ℕ) (comps : List Numbered) → All (IsOpenSlot pages) comps → (page : ℕ) → IsTrue (is_lent (extents_of comps) page) → FIRST_DATA_PAGE ≤ page
 behind pages [] all page lent = cc

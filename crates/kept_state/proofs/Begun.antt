@@ -7,8 +7,8 @@ use Rattle.primary_ix.specs.declared.rows.PrimRow.{PrimRow}
 use Rattle.store_state.specs.declared.jobs.JobRow.{JobRow}
 use Rattle.store_state.specs.Lists.{Lists}
 use Rattle.store_state.specs.Steps.{begun}
-use Rattle.kept_state.specs.Keeping.{IsKept}
-use Rattle.kept_state.specs.Reading.{IsLegible}
+use Rattle.store_state.specs.Keeping.{IsKept}
+use Rattle.store_state.specs.Reading.{IsLegible}
 
 pub kept-begun : (pages : ℕ) (log : Log) (table : Table) (l : Lists) (s : Story) (row : JobRow) → IsKept pages log table l s → row.written ≡ 0 → IsKept pages log table (begun row l) s
 kept-begun pages log table l s row kept none = record {

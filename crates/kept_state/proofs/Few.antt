@@ -32,7 +32,7 @@ use Rattle.component_image.specs.Laws.Components.{AllOf}
 use Rattle.component_image.specs.Laws.Counting.{rows-below}
 use Rattle.store_state.specs.Lists.{Lists}
 use Rattle.store_state.specs.EveryList.{IsLists, IsOpenSlot}
-use Rattle.kept_state.specs.Keeping.{IsKept}
+use Rattle.store_state.specs.Keeping.{IsKept}
 
 -- the rows of a tree of the primary fill its leaves at most
 rows_on_pages : (shape : Shape) (count : ℕ) → shape.per_leaf ≡ 52 → 2 ≤ shape.per_inner → HasPages shape count → shape.rows ≤ count * 52

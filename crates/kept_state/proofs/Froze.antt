@@ -20,8 +20,8 @@ use Rattle.store_state.specs.declared.jobs.JobRow.{JobRow}
 use Rattle.store_state.specs.Lists.{Lists, placed_up_to}
 use Rattle.store_state.specs.EveryList.{IsCut, IsLists, IsPlannedIf}
 use Rattle.store_state.specs.Steps.{frozen_at}
-use Rattle.kept_state.specs.Keeping.{IsKept, IsFrozenOf, IsUnderWayIf}
-use Rattle.kept_state.specs.Numbered.{IsNumbered}
+use Rattle.store_state.specs.Keeping.{IsKept, IsFrozenOf, IsUnderWayIf}
+use Rattle.store_state.specs.Numbered.{IsNumbered}
 use Rattle.kept_state.proofs.Stays.{components-stay, slots-stay, end-is, end-stays}
 
 -- where nothing is frozen the components end right before the newest segment

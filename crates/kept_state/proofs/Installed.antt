@@ -49,12 +49,12 @@ use Rattle.store_state.specs.Lists.{Lists, frozen_rows, open_of, placed_up_to, j
 use Rattle.store_state.specs.EveryList.{IsCut, IsLists, IsOpenSlot, IsPlanned, IsPlannedIf}
 use Rattle.store_state.specs.OwnJob.{IsJobOf}
 use Rattle.store_state.specs.Steps.{installed}
-use Rattle.kept_state.specs.Keeping.{IsKept, IsUnderWay, IsUnderWayIf, IsOnPage}
-use Rattle.kept_state.specs.Numbered.{IsNumbered}
-use Rattle.kept_state.specs.Reading.{IsLegible}
+use Rattle.store_state.specs.Keeping.{IsKept, IsUnderWay, IsUnderWayIf, IsOnPage}
+use Rattle.store_state.specs.Numbered.{IsNumbered}
+use Rattle.store_state.specs.Reading.{IsLegible}
 use Rattle.kept_state.specs.Laws.Installing.{active-later, may-be-added, may-stand}
-use Rattle.kept_state.specs.Laws.ReadingPages.{one_or_other, components-open, lent-inside}
-use Rattle.kept_state.specs.Laws.ReadingStays.{legible-installed, legible-within}
+use Rattle.store_state.specs.Laws.ReadingPages.{one_or_other, components-open, lent-inside}
+use Rattle.store_state.specs.Laws.ReadingStays.{legible-installed, legible-within}
 
 -- what holds anyway holds after a failure
 pub after-failure : {X E : Type 0} (r : Result X E) (P : Type 0) → P → OnErr r P

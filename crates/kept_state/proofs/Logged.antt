@@ -26,8 +26,8 @@ use Rattle.component_image.specs.Told.{SaysOld}
 use Rattle.store_state.specs.Lists.{Lists, placed_up_to}
 use Rattle.store_state.specs.EveryList.{IsCut, IsLists}
 use Rattle.store_state.specs.Steps.{added, rows_with}
-use Rattle.kept_state.specs.Keeping.{IsKept}
-use Rattle.kept_state.specs.Numbered.{IsNumbered}
+use Rattle.store_state.specs.Keeping.{IsKept}
+use Rattle.store_state.specs.Numbered.{IsNumbered}
 use Rattle.kept_state.proofs.Counting.{rows-written, told-had}
 use Rattle.kept_state.proofs.Stays.{components-stay, slots-stay, end-is, end-stays, lists-stay, job-stays}
 

@@ -24,7 +24,7 @@ use Rattle.component_image.specs.Laws.Showing.{same_lists_shown}
 use Rattle.store_state.specs.declared.jobs.JobRow.{JobRow}
 use Rattle.store_state.specs.Lists.{Lists, open_of, placed_up_to, job_of}
 use Rattle.store_state.specs.EveryList.{IsPlanned, IsPlannedIf}
-use Rattle.kept_state.specs.Keeping.{IsKept, IsUnderWay, IsUnderWayIf}
+use Rattle.store_state.specs.Keeping.{IsKept, IsUnderWay, IsUnderWayIf}
 
 readable_with : (s : Story) (call : Call) (i : ℕ) → IsSpared call i → IsReadable s.past i → IsReadable (with_call s call).past i
 readable_with s (Read at count) i spared readable = readable

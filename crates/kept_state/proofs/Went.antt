@@ -15,8 +15,8 @@ use Rattle.device_pages.specs.Lent.{is_lent}
 use Rattle.device_pages.specs.Laws.Asked.{asked-none, story-asked, ok_calls-asked, pages_of-given, ReadsWithin-asked}
 use Rattle.store_state.specs.Lists.{Lists, extents_of}
 use Rattle.store_state.specs.EveryList.{IsLists}
-use Rattle.kept_state.specs.OnlyRead.{HasRead, IsOnlyRead, IsPageIn}
-use Rattle.kept_state.specs.Laws.ReadingStays.{legible-reads, kept-reads, images-reads}
+use Rattle.store_state.specs.OnlyRead.{HasRead, IsOnlyRead, IsPageIn}
+use Rattle.store_state.specs.Laws.ReadingStays.{legible-reads, kept-reads, images-reads}
 
 pages_of-but_last : (pages : List ℕ) → pages_of (given_but_last pages) ≡ pages
 pages_of-but_last [] = refl

@@ -40,10 +40,10 @@ use Rattle.store_state.specs.Lists.{Lists, extent_of, extents_of, open_of, place
 use Rattle.store_state.specs.EveryList.{IsLists, IsPlanned, IsPlannedIf}
 use Rattle.store_state.specs.OwnJob.{IsJobOf}
 use Rattle.store_state.specs.Steps.{one_written}
-use Rattle.kept_state.specs.Keeping.{IsKept, IsUnderWay, IsUnderWayIf, IsOnPage}
-use Rattle.kept_state.specs.Reading.{IsLegible}
-use Rattle.kept_state.specs.Laws.ReadingPages.{lent-inside}
-use Rattle.kept_state.specs.Laws.ReadingStays.{legible-within}
+use Rattle.store_state.specs.Keeping.{IsKept, IsUnderWay, IsUnderWayIf, IsOnPage}
+use Rattle.store_state.specs.Reading.{IsLegible}
+use Rattle.store_state.specs.Laws.ReadingPages.{lent-inside}
+use Rattle.store_state.specs.Laws.ReadingStays.{legible-within}
 use Rattle.kept_state.proofs.Stays.{readable-spared}
 
 -- calls that stopped, where the answer is a failure

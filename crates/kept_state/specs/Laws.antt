@@ -1,5 +1,3 @@
 -- Laws of the definitions beside this file, for proofs of callers. No public contract needs them.
 pub mod Installing
-pub mod ReadingPages
-pub mod ReadingStays
 pub mod Records

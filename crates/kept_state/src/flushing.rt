@@ -18,9 +18,9 @@ ghost use Rattle.store_state.specs.EveryList.{IsLists};
 ghost use Rattle.store_state.specs.OwnJob.{IsJobOf};
 ghost use Rattle.store_state.specs.Steps.{installed, one_written};
 ghost use Rattle.store_state.specs.declared.jobs.JobRow.{JobRow};
-ghost use Rattle.kept_state.specs.Keeping.{IsKept};
-ghost use Rattle.kept_state.specs.Numbered.{IsNumbered};
-ghost use Rattle.kept_state.specs.Reading.{IsLegible};
+ghost use Rattle.store_state.specs.Keeping.{IsKept};
+ghost use Rattle.store_state.specs.Numbered.{IsNumbered};
+ghost use Rattle.store_state.specs.Reading.{IsLegible};
 
 use crate::installing::install_component;
 use crate::laws::{jobs_have_rules, lists_have_rules};

@@ -25,7 +25,11 @@ use image_model::{LOG_PAGES, LOG_START};
 
 /// Installs a component whose pages are written: writes its slot, syncs, opens the slot's gate and syncs. It stops at the call
 /// that fails. The first sync puts the pages on the disk too, so a component is open only where its pages are.
-pub(crate) fn install_component<D: Device>(device: &mut D, n: u16, slot: &Slot) -> Result<(), Failed>
+pub(crate) fn install_component<D: Device>(
+    device: &mut D,
+    n: u16,
+    slot: &Slot,
+) -> Result<(), Failed>
     requires below { n < SLOTS }
     requires pages { LOG_PAGES ≤ D.pages device.old }
 

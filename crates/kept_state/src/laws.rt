@@ -13,9 +13,9 @@ ghost use Rattle.store_state.specs.declared.jobs.JobRow.{JobRow};
 ghost use Rattle.store_state.specs.Lists.{Lists, job_of};
 ghost use Rattle.store_state.specs.EveryList.{IsLists};
 ghost use Rattle.store_state.specs.Steps.{begun};
-ghost use Rattle.kept_state.specs.Keeping.{IsKept};
-ghost use Rattle.kept_state.specs.Numbered.{IsNumbered};
-ghost use Rattle.kept_state.specs.Reading.{IsLegible};
+ghost use Rattle.store_state.specs.Keeping.{IsKept};
+ghost use Rattle.store_state.specs.Numbered.{IsNumbered};
+ghost use Rattle.store_state.specs.Reading.{IsLegible};
 
 use build_job::BuildJob;
 use store_state::State;

@@ -22,9 +22,9 @@ ghost use Rattle.store_state.specs.Lists.{Lists, extents_of};
 ghost use Rattle.store_state.specs.EveryList.{IsLists};
 ghost use Rattle.store_state.specs.Steps.{added, begun, frozen_at, installed, one_written};
 ghost use Rattle.store_state.specs.declared.jobs.JobRow.{JobRow};
-ghost use Rattle.kept_state.specs.Keeping.{IsKept};
-ghost use Rattle.kept_state.specs.Reading.{IsLegible};
-ghost use Rattle.kept_state.specs.OnlyRead.{IsPageIn};
+ghost use Rattle.store_state.specs.Keeping.{IsKept};
+ghost use Rattle.store_state.specs.Reading.{IsLegible};
+ghost use Rattle.store_state.specs.OnlyRead.{IsPageIn};
 
 /// A law: a store that nothing has stopped can be read, by the lists that its table recovers from.
 pub fn kept_is_legible()

@@ -23,8 +23,8 @@ ghost use Rattle.primary_ix.specs.Records.{record_in, record_of, table_rows};
 ghost use Rattle.primary_ix.specs.declared.rows.PrimRow.{PrimRow as PrimRowModel};
 ghost use Rattle.store_state.specs.Lists.{extents_of, trees_of};
 ghost use Rattle.store_state.specs.EveryList.{IsLists};
-ghost use Rattle.kept_state.specs.Reading.{IsLegible};
-ghost use Rattle.kept_state.specs.OnlyRead.{HasRead, IsOnlyRead};
+ghost use Rattle.store_state.specs.Reading.{IsLegible};
+ghost use Rattle.store_state.specs.OnlyRead.{HasRead, IsOnlyRead};
 
 use dev_model::{Device, PageFault};
 use device_pages::DevicePages;

@@ -19,9 +19,9 @@ ghost use Rattle.component_image.specs.Standing.{RecoversEither};
 ghost use Rattle.component_image.specs.Told.{SaysOld};
 ghost use Rattle.store_state.specs.EveryList.{IsLists};
 ghost use Rattle.store_state.specs.Steps.{added, frozen_at};
-ghost use Rattle.kept_state.specs.Keeping.{IsKept};
-ghost use Rattle.kept_state.specs.Numbered.{IsNumbered};
-ghost use Rattle.kept_state.specs.Reading.{IsLegible};
+ghost use Rattle.store_state.specs.Keeping.{IsKept};
+ghost use Rattle.store_state.specs.Numbered.{IsNumbered};
+ghost use Rattle.store_state.specs.Reading.{IsLegible};
 ghost use Rattle.kept_state.specs.Writing.{next_record};
 
 use crate::laws::lists_have_rules;

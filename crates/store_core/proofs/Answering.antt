@@ -14,8 +14,8 @@ use Rattle.store_state.specs.Lists.{Lists, extents_of, placed_up_to, trees_of}
 use Rattle.dev_model.specs.Asked.{reads_of}
 use Rattle.device_pages.specs.Asked.{calls_of}
 use Rattle.device_pages.specs.Lending.{contents_of}
-use Rattle.kept_state.specs.Reading.{IsLegible}
-use Rattle.kept_state.specs.OnlyRead.{HasRead, IsOnlyRead}
+use Rattle.store_state.specs.Reading.{IsLegible}
+use Rattle.store_state.specs.OnlyRead.{HasRead, IsOnlyRead}
 use Rattle.store_machine.specs.Calls.{Makes}
 use Rattle.store_machine.specs.Standing.{StoreState}
 use Rattle.store_machine.specs.Devices.{DeviceState}

@@ -17,9 +17,9 @@ use Rattle.primary_ix.specs.declared.rows.PrimRow.{PrimRow}
 use Rattle.store_machine.specs.Needs.{place_in}
 use Rattle.store_machine.specs.Standing.{StoreState}
 use Rattle.store_machine.specs.Devices.{DeviceState}
-use Rattle.kept_state.specs.Reading.{IsLegible}
-use Rattle.kept_state.specs.OnlyRead.{IsPageIn}
-use Rattle.kept_state.specs.Laws.ReadingStays.{legible-before_reads}
+use Rattle.store_state.specs.Reading.{IsLegible}
+use Rattle.store_state.specs.OnlyRead.{IsPageIn}
+use Rattle.store_state.specs.Laws.ReadingStays.{legible-before_reads}
 use Rattle.store_machine.specs.Runs.{way_to}
 use Rattle.store_machine.specs.Laws.Reading.{HasOnlyRead}
 use Rattle.store_core.specs.Writing.{matter_of, old_point}

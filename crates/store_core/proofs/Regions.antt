@@ -12,8 +12,8 @@ use Rattle.primary_ix.specs.Wanted.{matter_row}
 use Rattle.primary_ix.specs.Records.{table_rows}
 use Rattle.primary_ix.specs.declared.rows.PrimRow.{PrimRow}
 use Rattle.table_model.specs.Table.{Table, rows_of, rows_inside}
-use Rattle.kept_state.specs.Reading.{IsLegible}
-use Rattle.kept_state.specs.OnlyRead.{HasRead, IsOnlyRead}
+use Rattle.store_state.specs.Reading.{IsLegible}
+use Rattle.store_state.specs.OnlyRead.{HasRead, IsOnlyRead}
 use Rattle.store_machine.specs.Calls.{Makes}
 use Rattle.store_machine.specs.Standing.{StoreState}
 use Rattle.store_machine.specs.Devices.{DeviceState}

@@ -24,7 +24,7 @@ use Rattle.wal_log.specs.declared.log.Log.{Log}
 use Rattle.wal_log.specs.declared.records.LogOp.{LogOp}
 use Rattle.wal_log.specs.declared.records.Record.{Record}
 use Rattle.store_state.specs.Lists.{extents_of, trees_of}
-use Rattle.kept_state.specs.OnlyRead.{HasRead}
+use Rattle.store_state.specs.OnlyRead.{HasRead}
 use Rattle.kept_state.specs.Writing.{next_record}
 use Rattle.store_machine.specs.Laws.LogCalls.{append-calls}
 use Rattle.store_machine.specs.Laws.Reading.{seen_of}

@@ -30,8 +30,8 @@ use Rattle.store_state.specs.Steps.{begun, frozen_at, installed, one_written}
 use Rattle.store_state.specs.declared.faults.BeginFault.{BeginFault}
 use Rattle.store_state.specs.declared.faults.BeginFault.TheVariants as begin
 use Rattle.store_state.specs.declared.jobs.JobRow.{JobRow}
-use Rattle.kept_state.specs.Keeping.{IsKept}
-use Rattle.kept_state.specs.Reading.{IsLegible}
+use Rattle.store_state.specs.Keeping.{IsKept}
+use Rattle.store_state.specs.Reading.{IsLegible}
 use Rattle.store_machine.specs.Machine.{Machine, Opening, does, log_turned, row_of}
 use Rattle.store_machine.specs.Needs.{IsWriting, IsWrittenOut, MayFreeze, Needs, RefusesBegin}
 use Rattle.store_machine.specs.Runs.{Acknowledges, IsFront, IsOwned, MakesCalls, Stops, is_fault}

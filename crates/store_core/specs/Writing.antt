@@ -16,7 +16,7 @@ use Rattle.primary_ix.specs.Wanted.{table_row}
 use Rattle.primary_ix.specs.declared.rows.PrimRow.{PrimRow}
 use Rattle.store_machine.specs.declared.events.Refusal.{Refusal}
 use Rattle.store_machine.specs.declared.events.Refusal.TheVariants.{Fault, Stopped, Full, Again, NoIndex, Damaged, OutOfMemory}
-use Rattle.kept_state.specs.Reading.{IsLegible}
+use Rattle.store_state.specs.Reading.{IsLegible}
 use Rattle.kept_state.specs.Writing.{next_record}
 use Rattle.store_machine.specs.Laws.Logging.{between, LogsAll, LogFails, failed_state}
 use Rattle.store_machine.specs.Runs.{way_to}

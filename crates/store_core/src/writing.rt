@@ -7,7 +7,7 @@ ghost use Rattle.table_model.specs.Table.{Table};
 ghost use Rattle.wal_log.specs.Records.{key_of};
 ghost use Rattle.primary_ix.specs.declared.rows.PrimRow.{PrimRow};
 ghost use Rattle.component_image.specs.Told.{SaysOld};
-ghost use Rattle.kept_state.specs.Reading.{IsLegible};
+ghost use Rattle.store_state.specs.Reading.{IsLegible};
 ghost use Rattle.kept_state.specs.Writing.{next_record};
 ghost use Rattle.store_machine.specs.Calls.{IsReady, Makes};
 ghost use Rattle.store_machine.specs.Standing.{StoreState};

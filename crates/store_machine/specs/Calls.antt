@@ -3,7 +3,7 @@ use Rattle.std.specs.Prelude.{◌≡◌, ℕ, ◌≤◌, Bool, false, List, [], 
 use Rattle.wal_log.specs.Counted.{IsCounted}
 use Rattle.image_model.specs.declared.places.TheConstants.{LOG_PAGES}
 use Rattle.store_state.specs.EveryList.{IsLists}
-use Rattle.kept_state.specs.Numbered.{IsNumbered}
+use Rattle.store_state.specs.Numbered.{IsNumbered}
 use Rattle.store_machine.specs.Machine.{Opening}
 use Rattle.store_machine.specs.Standing.{StoreState, Stands}
 use Rattle.store_machine.specs.Devices.{DeviceState}

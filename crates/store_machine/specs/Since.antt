@@ -8,7 +8,7 @@ use Rattle.image_model.specs.Superblock.{declared}
 use Rattle.image_model.specs.Opening.{IsOpeningRange}
 use Rattle.component_image.specs.Recovered.{IsLookedAt}
 use Rattle.primary_ix.specs.declared.rows.PrimRow.{PrimRow}
-use Rattle.kept_state.specs.Held.{IsHeld}
+use Rattle.store_state.specs.Held.{IsHeld}
 use Rattle.store_machine.specs.Damage.{DamagesAre}
 use Rattle.store_machine.specs.Devices.{DeviceState, HoldsTable}
 use Rattle.store_machine.specs.Machine.{Machine, Opening, at_opening, after_all}

@@ -15,8 +15,8 @@ use Rattle.store_machine.specs.Outcomes.{after_groups}
 use Rattle.store_machine.specs.Devices.{DeviceState, HoldsTable}
 use Rattle.store_machine.specs.Machine.{Machine, Opening, at_opening, after_all}
 use Rattle.store_state.specs.Lists.{Lists}
-use Rattle.kept_state.specs.Keeping.{IsKept}
-use Rattle.kept_state.specs.Reading.{IsLegible}
+use Rattle.store_state.specs.Keeping.{IsKept}
+use Rattle.store_state.specs.Reading.{IsLegible}
 use Rattle.store_machine.specs.Runs.{IsRun}
 use Rattle.store_machine.specs.declared.events.Event.{Event}
 

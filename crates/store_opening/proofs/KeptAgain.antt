@@ -43,7 +43,7 @@ use Rattle.component_image.specs.Laws.Counting.{told-count, rows-below}
 use Rattle.store_state.specs.Lists.{Lists, placed_up_to}
 use Rattle.store_state.specs.Opened.{placed_rows, opened}
 use Rattle.store_state.specs.Steps.{frozen_at}
-use Rattle.kept_state.specs.Keeping.{IsKept}
+use Rattle.store_state.specs.Keeping.{IsKept}
 use Rattle.store_opening.specs.Read.{HasRead, HasSlots, AreLawfulSlots}
 use Rattle.store_opening.specs.Restored.{with_records, last_before, restored}
 use Rattle.store_opening.proofs.InOrder.{primary-placed, end-placed, ends-placed, slots-found}

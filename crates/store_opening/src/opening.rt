@@ -9,8 +9,8 @@ ghost use Rattle.image_model.specs.Superblock.{declared};
 ghost use Rattle.component_image.specs.Recovered.{Opens, IsLookedAt, IsContent, Recovers};
 ghost use Rattle.store_state.specs.Lists.{placed_up_to};
 ghost use Rattle.store_state.specs.EveryList.{IsLists};
-ghost use Rattle.kept_state.specs.Keeping.{IsKept};
-ghost use Rattle.kept_state.specs.Numbered.{IsNumbered};
+ghost use Rattle.store_state.specs.Keeping.{IsKept};
+ghost use Rattle.store_state.specs.Numbered.{IsNumbered};
 ghost use Rattle.store_opening.specs.Openings.{IsRefusal, HasFaulted};
 ghost use Rattle.store_opening.specs.Read.{HasRead, AreLawfulSlots, log_fault};
 

@@ -1,2 +1,4 @@
 -- Laws of the definitions beside this file, for proofs of callers. No public contract needs them.
 pub mod Planned
+pub mod ReadingPages
+pub mod ReadingStays

@@ -1,10 +1,15 @@
 pub mod Beginning
 pub mod Begun
 pub mod EveryList
+pub mod Held
+pub mod Keeping
 pub mod Laws
 pub mod Lists
 pub mod NextPage
+pub mod Numbered
+pub mod OnlyRead
 pub mod Opened
 pub mod OwnJob
+pub mod Reading
 pub mod Room
 pub mod Steps

@@ -44,8 +44,8 @@ use Rattle.store_state.specs.declared.jobs.JobRow.{JobRow}
 use Rattle.store_state.specs.Lists.{Lists, open_of, extent_of, extents_of, frozen_rows, job_of, placed_up_to}
 use Rattle.store_state.specs.EveryList.{IsLists, IsPlanned, IsPlannedIf, IsCut}
 use Rattle.kept_state.specs.Laws.Records.{newest-are}
-use Rattle.kept_state.specs.Keeping.{IsKept, IsFrozenOf, IsUnderWay, IsUnderWayIf}
-use Rattle.kept_state.specs.Numbered.{IsNumbered}
+use Rattle.store_state.specs.Keeping.{IsKept, IsFrozenOf, IsUnderWay, IsUnderWayIf}
+use Rattle.store_state.specs.Numbered.{IsNumbered}
 
 length-directory : (bytes : Bytes) → length (directory_of bytes) ≡ SLOTS
 unfolding directory_of

@@ -9,7 +9,7 @@ use Rattle.device_pages.specs.Lending.{contents_of, page_bytes}
 use Rattle.device_pages.specs.LentPlaces.{IsLentPlace}
 use Rattle.device_pages.specs.Laws.Lending.{contents-readable}
 use Rattle.component_image.specs.Components.{IsInExtents}
-use Rattle.kept_state.specs.Laws.ReadingPages.{lent-inside}
+use Rattle.store_state.specs.Laws.ReadingPages.{lent-inside}
 use Rattle.primary_ix.specs.Damage.{IsDamagedIn}
 use Rattle.store_state.specs.Lists.{Lists, extents_of, trees_of}
 use Rattle.store_machine.specs.Damage.{damaged_page, WasDamaged, DamagesAre}

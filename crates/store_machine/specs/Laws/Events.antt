@@ -32,7 +32,7 @@ use Rattle.store_machine.specs.Devices.{DeviceState}
 use Rattle.store_machine.specs.declared.events.Wrote.{Wrote}
 use Rattle.store_machine.specs.declared.events.Refusal.TheVariants.{Fault}
 use Rattle.store_state.specs.Lists.{Lists}
-use Rattle.kept_state.specs.Reading.{IsLegible}
+use Rattle.store_state.specs.Reading.{IsLegible}
 use Rattle.store_machine.specs.Runs.{Way, way_to, AreReads, MakesCalls, MakesWrite, Allows, IsFront, IsOwned, Acknowledges, Stops, TakesTime, is_fault, log_calls}
 use Rattle.store_machine.specs.Laws.Steps.{makes, passes, event_of, GoesOn}
 use Rattle.store_machine.specs.Laws.Reading.{HasOnlyRead, gone-read, IsPartBy, is_failed, read_calls, reads-go_on, reads-made, reads-time}

@@ -33,9 +33,9 @@ use Rattle.store_machine.specs.Standing.{AreUpTo, StoreState, Begins, Has, Tells
 use Rattle.store_machine.specs.Devices.{DeviceState}
 use Rattle.store_state.specs.Lists.{Lists}
 use Rattle.store_state.specs.Steps.{added}
-use Rattle.kept_state.specs.Keeping.{IsKept}
-use Rattle.kept_state.specs.Reading.{IsLegible}
-use Rattle.kept_state.specs.Laws.ReadingStays.{legible-added}
+use Rattle.store_state.specs.Keeping.{IsKept}
+use Rattle.store_state.specs.Reading.{IsLegible}
+use Rattle.store_state.specs.Laws.ReadingStays.{legible-added}
 use Rattle.store_machine.specs.Laws.Crashes.{attempt, acknowledged}
 use Rattle.store_machine.specs.Laws.Steps.{GoesOn, goes_on}
 

@@ -18,8 +18,8 @@ use Rattle.primary_ix.specs.declared.rows.PrimRow.{PrimRow}
 use Rattle.store_machine.specs.Standing.{StoreState, Stands, StandsSince}
 use Rattle.store_machine.specs.Devices.{DeviceState}
 use Rattle.store_state.specs.Lists.{Lists}
-use Rattle.kept_state.specs.Keeping.{IsKept}
-use Rattle.kept_state.specs.Laws.ReadingStays.{kept-legible}
+use Rattle.store_state.specs.Keeping.{IsKept}
+use Rattle.store_state.specs.Laws.ReadingStays.{kept-legible}
 use Rattle.store_machine.specs.Machine.{Opening}
 use Rattle.store_machine.specs.Crash.{Keeps}
 

@@ -31,9 +31,9 @@ use Rattle.store_machine.specs.Outcomes.{Group}
 use Rattle.store_machine.specs.Machine.{Machine, Opening}
 use Rattle.store_machine.specs.Standing.{AreUpTo, StoreState, Has, Tells}
 use Rattle.store_machine.specs.Devices.{DeviceState}
-use Rattle.kept_state.specs.Reading.{IsLegible}
-use Rattle.kept_state.specs.OnlyRead.{HasRead, IsOnlyRead, IsPageIn}
-use Rattle.kept_state.specs.Laws.ReadingStays.{moments-reads}
+use Rattle.store_state.specs.Reading.{IsLegible}
+use Rattle.store_state.specs.OnlyRead.{HasRead, IsOnlyRead, IsPageIn}
+use Rattle.store_state.specs.Laws.ReadingStays.{moments-reads}
 use Rattle.store_machine.specs.Runs.{Way, IsAllOf, IsFirstOf, IsFrontUpTo, StopsBefore, AreReads, TakesTime}
 use Rattle.store_machine.specs.Laws.Steps.{GoesOn}
 

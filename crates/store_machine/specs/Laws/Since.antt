@@ -3,7 +3,7 @@ use Rattle.std.proofs.Common.{◌≡◌, ℕ, true, List, Some, None, refl, sym,
 use Rattle.dev_model.specs.Story.{Story, after}
 use Rattle.table_model.specs.Table.{Table}
 use Rattle.primary_ix.specs.declared.rows.PrimRow.{PrimRow}
-use Rattle.kept_state.specs.Held.{IsHeld}
+use Rattle.store_state.specs.Held.{IsHeld}
 use Rattle.wal_log.specs.declared.log.Log.{Log}
 use Rattle.store_state.specs.Lists.{Lists}
 use Rattle.store_machine.specs.Devices.{DeviceState}

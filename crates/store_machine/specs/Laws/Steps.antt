@@ -14,8 +14,8 @@ use Rattle.store_machine.specs.Laws.Counting.{AreUpTo-later}
 use Rattle.store_machine.specs.Laws.Damages.{HasGoneOn, IsCause, damages-add, cause-was}
 use Rattle.store_machine.specs.Outcomes.{Group}
 use Rattle.store_machine.specs.Machine.{Machine, Opening, does, group_of, at_opening, after_event, after_all}
-use Rattle.kept_state.specs.Keeping.{IsKept}
-use Rattle.kept_state.specs.Reading.{IsLegible}
+use Rattle.store_state.specs.Keeping.{IsKept}
+use Rattle.store_state.specs.Reading.{IsLegible}
 use Rattle.store_machine.specs.Runs.{IsRun, Allows}
 use Rattle.store_machine.specs.Calls.{Adds, IsEventOf, Makes}
 use Rattle.store_machine.specs.Standing.{StoreState, Begins, Has, Tells, Stands, StandsSince}

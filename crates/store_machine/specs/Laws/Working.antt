@@ -17,8 +17,8 @@ use Rattle.store_machine.specs.Outcomes.{Group}
 use Rattle.store_machine.specs.Machine.{Machine, Opening}
 use Rattle.store_machine.specs.Standing.{StoreState, Has, Tells}
 use Rattle.store_machine.specs.Devices.{DeviceState}
-use Rattle.kept_state.specs.Keeping.{IsKept}
-use Rattle.kept_state.specs.Reading.{IsLegible}
+use Rattle.store_state.specs.Keeping.{IsKept}
+use Rattle.store_state.specs.Reading.{IsLegible}
 use Rattle.store_machine.specs.Laws.Crashes.{keeps_table}
 use Rattle.store_machine.specs.Runs.{TakesTime}
 use Rattle.store_machine.specs.Laws.Steps.{GoesOn}

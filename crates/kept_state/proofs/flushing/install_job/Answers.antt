@@ -4,8 +4,8 @@ use Rattle.build_job.specs.declared.plan.JobPlan.{JobPlan}
 use Rattle.store_state.specs.Lists.{Lists}
 use Rattle.store_state.specs.EveryList.{IsLists}
 use Rattle.store_state.specs.Steps.{installed}
-use Rattle.kept_state.specs.Keeping.{IsKept}
-use Rattle.kept_state.specs.Reading.{IsLegible}
+use Rattle.store_state.specs.Keeping.{IsKept}
+use Rattle.store_state.specs.Reading.{IsLegible}
 use Rattle.kept_state.proofs.Installed.{after-failure, legible-apart, legible-placed, may-stand-there, closed-there, written-there, kept-installed}
 use Rattle.kept_state.proofs.flushing.install_job.Goals as goal
 

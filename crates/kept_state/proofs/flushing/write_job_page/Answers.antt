@@ -3,8 +3,8 @@ use Rattle.dev_model.specs.Story.{Write}
 use Rattle.dev_model.specs.Doing.{HasStoppedIn}
 use Rattle.store_state.specs.Lists.{Lists}
 use Rattle.store_state.specs.Steps.{one_written}
-use Rattle.kept_state.specs.Keeping.{IsKept}
-use Rattle.kept_state.specs.Reading.{IsLegible}
+use Rattle.store_state.specs.Keeping.{IsKept}
+use Rattle.store_state.specs.Reading.{IsLegible}
 use Rattle.kept_state.proofs.Written.{stopped-did, next-free, legible-beside, legible-written, kept-written}
 use Rattle.kept_state.proofs.flushing.write_job_page.Goals as goal
 

@@ -1,4 +1,4 @@
-use Rattle.kept_state.specs.Laws.ReadingStays.{legible-added, legible-begun, legible-frozen, legible-installed, legible-one_written}
+use Rattle.store_state.specs.Laws.ReadingStays.{legible-added, legible-begun, legible-frozen, legible-installed, legible-one_written}
 use Rattle.kept_state.proofs.legible.changed_lists_stay_legible.Goals as goal
 
 pub returns-clause-added : goal.returns-clause-added

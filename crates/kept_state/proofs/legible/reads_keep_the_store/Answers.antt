@@ -1,5 +1,5 @@
-use Rattle.kept_state.specs.OnlyRead.{IsPageIn}
-use Rattle.kept_state.specs.Laws.ReadingStays.{legible-reads, kept-reads, images-reads}
+use Rattle.store_state.specs.OnlyRead.{IsPageIn}
+use Rattle.store_state.specs.Laws.ReadingStays.{legible-reads, kept-reads, images-reads}
 use Rattle.kept_state.proofs.legible.reads_keep_the_store.Goals as goal
 
 pub returns-clause-legible : goal.returns-clause-legible

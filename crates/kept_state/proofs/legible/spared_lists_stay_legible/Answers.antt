@@ -1,4 +1,4 @@
-use Rattle.kept_state.specs.Laws.ReadingStays.{legible-spared, legible-within, legible-before, legible-elsewhere}
+use Rattle.store_state.specs.Laws.ReadingStays.{legible-spared, legible-within, legible-before, legible-elsewhere}
 use Rattle.kept_state.proofs.legible.spared_lists_stay_legible.Goals as goal
 
 pub returns-clause-spared : goal.returns-clause-spared

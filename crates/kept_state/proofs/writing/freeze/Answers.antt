@@ -1,9 +1,9 @@
 use Rattle.std.proofs.Common.{rules, ◌≡◌, ◌-◌, sym, subst}
 use Rattle.store_state.specs.Lists.{Lists}
 use Rattle.store_state.specs.Steps.{frozen_at}
-use Rattle.kept_state.specs.Keeping.{IsKept}
-use Rattle.kept_state.specs.Reading.{IsLegible}
-use Rattle.kept_state.specs.Laws.ReadingStays.{legible-frozen}
+use Rattle.store_state.specs.Keeping.{IsKept}
+use Rattle.store_state.specs.Reading.{IsLegible}
+use Rattle.store_state.specs.Laws.ReadingStays.{legible-frozen}
 use Rattle.kept_state.proofs.Apart.{legible-logged}
 use Rattle.kept_state.proofs.Froze.{ends-before, kept-frozen}
 use Rattle.kept_state.proofs.writing.freeze.Goals as goal

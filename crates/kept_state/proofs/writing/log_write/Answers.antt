@@ -4,7 +4,7 @@ use Rattle.image_model.specs.Recovered.{write_of}
 use Rattle.primary_ix.specs.Wanted.{written_row}
 use Rattle.store_state.specs.Lists.{Lists}
 use Rattle.store_state.specs.Steps.{added}
-use Rattle.kept_state.specs.Keeping.{IsKept}
+use Rattle.store_state.specs.Keeping.{IsKept}
 use Rattle.kept_state.specs.Writing.{next_record}
 use Rattle.kept_state.proofs.Apart.{legible-logged}
 use Rattle.kept_state.proofs.Few.{rows-few}

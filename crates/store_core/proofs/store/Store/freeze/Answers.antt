@@ -5,7 +5,7 @@ use Rattle.store_machine.specs.Devices.{DeviceState}
 use Rattle.store_machine.specs.declared.events.Action.TheVariants.{Freeze}
 use Rattle.store_machine.specs.declared.events.Refusal.{Refusal}
 use Rattle.store_state.specs.Lists.{Lists}
-use Rattle.kept_state.specs.Reading.{IsLegible}
+use Rattle.store_state.specs.Reading.{IsLegible}
 use Rattle.store_core.specs.Stores.{device_of, state_of}
 use Rattle.store_core.proofs.WorkEvents.{IsStep, MayTurn, after-stop, freeze-failed, freeze-stopped, froze, none-there, not-frozen, some-there}
 use Rattle.store_core.proofs.store.Store.freeze.Goals as goal

@@ -8,7 +8,7 @@ use Rattle.component_image.specs.Told.{SaysOld}
 use Rattle.store_machine.specs.Standing.{StoreState}
 use Rattle.store_machine.specs.Devices.{DeviceState}
 use Rattle.store_state.specs.Lists.{Lists}
-use Rattle.kept_state.specs.Reading.{IsLegible}
+use Rattle.store_state.specs.Reading.{IsLegible}
 use Rattle.kept_state.specs.Writing.{next_record}
 use Rattle.store_machine.specs.Laws.Logging.{LogsAll, LogFails}
 use Rattle.store_core.specs.Stores.{state_of, device_of}

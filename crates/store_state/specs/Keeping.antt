@@ -9,7 +9,7 @@ pub use Rattle.component_image.specs.Changes.{changed, IsFrozenOf}
 use Rattle.component_image.specs.Content.{page_at}
 use Rattle.store_state.specs.declared.jobs.JobRow.{JobRow}
 use Rattle.store_state.specs.Lists.{Lists, job_of}
-use Rattle.kept_state.specs.Held.{IsHeld}
+use Rattle.store_state.specs.Held.{IsHeld}
 
 -- a place of a page
 pub record IsOnPage (page i : ℕ) : Type 0 where

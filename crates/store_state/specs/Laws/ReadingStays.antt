@@ -54,9 +54,9 @@ use Rattle.store_state.specs.declared.jobs.JobRow.{JobRow}
 use Rattle.store_state.specs.Lists.{Lists, extent_of, frozen_rows, extents_of, trees_of, open_of, placed_up_to, job_of}
 use Rattle.store_state.specs.EveryList.{IsLists, IsOpenSlot}
 use Rattle.store_state.specs.Steps.{added, begun, frozen_at, installed, one_written}
-use Rattle.kept_state.specs.Keeping.{IsKept, IsUnderWayIf}
-use Rattle.kept_state.specs.Reading.{IsLegible}
-use Rattle.kept_state.specs.Laws.ReadingPages.{one_or_other, lent-first, lent-inside, shown-told, components-open, trees-lent, shown-same}
+use Rattle.store_state.specs.Keeping.{IsKept, IsUnderWayIf}
+use Rattle.store_state.specs.Reading.{IsLegible}
+use Rattle.store_state.specs.Laws.ReadingPages.{one_or_other, lent-first, lent-inside, shown-told, components-open, trees-lent, shown-same}
 
 -- the newest component's last write
 end_of-placed : (comps : List Numbered) → end_of (map (λ e. e.1) comps) ≡ placed_up_to comps

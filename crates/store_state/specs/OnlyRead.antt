@@ -13,8 +13,8 @@ use Rattle.page_codec.specs.declared.pages.TheConstants.{PAGE_BYTES}
 use Rattle.primary_ix.specs.declared.rows.PrimRow.{PrimRow}
 use Rattle.component_image.specs.Recovered.{Recovers}
 use Rattle.store_state.specs.Lists.{Lists, extents_of}
-use Rattle.kept_state.specs.Keeping.{IsKept}
-use Rattle.kept_state.specs.Reading.{IsLegible}
+use Rattle.store_state.specs.Keeping.{IsKept}
+use Rattle.store_state.specs.Reading.{IsLegible}
 
 -- this range is a page of a component
 pub record IsPageIn (l : Lists) (at count : ℕ) : Type 0 where
