@@ -1,48 +1,62 @@
 #!/usr/bin/env python3
 """Measures what the gate costs, crate by crate, in processor seconds.
 
-usage: tools/gate_times.py [CRATE..]      (default: every crate of crates.txt, in its order)
+usage: tools/gate_times.py [FILE]      (at the top of the repository; the gate's own output goes to FILE, or nowhere)
 
-The gate itself prints no times. For each crate this makes the calls that it makes, in a clone of what is committed, and prints a
-row of a table: its proof from nothing, or that of its tests where it has some; its runs, where it is a program; and its must-fail
-edits, with the proof that they begin with. The crates below are made ready before, and that isn't counted. Processor seconds are
-user and system time of a call and all that it began, so they hardly depend on what else the machine does; the whole takes as
-long as a gate from nothing on one processor. A cell is marked with `!` where its call didn't end well. The clone is removed
-where all did.
+The gate itself prints no times. This runs it from nothing (`rt ci --anew`) in a clone of what is committed, looks four times
+a second at the processes that it began, and adds up what each had spent when it was last seen: user and system time, which
+hardly depends on what else the machine does. What a process spends behind the last look is missed, so a row is a little low. A
+row of the table is a crate's proof, that of its tests where it has some, and its must-fail edits; the last rows are what no
+crate's name stands in (running programs and tests, compiling, and the gate itself) and the whole. It ends as the gate does.
 """
+import collections
+import os
 import pathlib
-import resource
 import shutil
 import subprocess
 import sys
 import tempfile
-from dataclasses import dataclass
+import time
 
-top = pathlib.Path(__file__).resolve().parent.parent
-
-
-@dataclass(frozen=True)
-class Cell:
-    """What a kind of calls took, or None where the crate needs none."""
-
-    seconds: float | None = None
-    is_well: bool = True
-
-    def __str__(self):
-        return "" if self.seconds is None else f"{self.seconds:.0f}{'' if self.is_well else ' !'}"
+TOP = pathlib.Path(__file__).resolve().parent.parent
+KINDS = ("proof", "tests", "edits")
+TICKS = os.sysconf("SC_CLK_TCK")
+LOOKS_A_SECOND = 4
 
 
-def spent():
-    used = resource.getrusage(resource.RUSAGE_CHILDREN)
-    return used.ru_utime + used.ru_stime
+def processes():
+    """What stands in /proc of each process: its parent, its processor seconds, its words and its folder."""
+    for entry in os.listdir("/proc"):
+        if not entry.isdigit():
+            continue
+        try:
+            fields = pathlib.Path("/proc", entry, "stat").read_text().rsplit(")", 1)[1].split()
+            words = pathlib.Path("/proc", entry, "cmdline").read_text().split("\0")
+            folder = os.readlink(f"/proc/{entry}/cwd")
+        except OSError:
+            continue
+        yield int(entry), int(fields[1]), (int(fields[11]) + int(fields[12])) / TICKS, words, folder
 
 
-def timed(folder, *calls):
-    """The processor seconds of these calls in a folder, which are made one after another."""
-    before, is_well = spent(), True
-    for call in calls:
-        is_well &= subprocess.run(call, cwd=folder, stdout=subprocess.DEVNULL, stderr=subprocess.DEVNULL, stdin=subprocess.DEVNULL).returncode == 0
-    return Cell(spent() - before, is_well)
+def name_of(words, folder):
+    """The crate that a process is about, and what it does for it."""
+    if "--crate-name" not in words:
+        return "", "proof"
+    crate = words[words.index("--crate-name") + 1]
+    if "/rt-edit" in folder:
+        return crate, "edits"
+    return crate, "tests" if "--test" in words else "proof"
+
+
+def spent_below(root, spent):
+    """Notes what each process that stands below this one has spent."""
+    found = {pid: (parent, seconds, words, folder) for pid, parent, seconds, words, folder in processes()}
+    for pid, (_, seconds, words, folder) in found.items():
+        above = pid
+        while above in found and above != root:
+            above = found[above][0]
+        if above == root:
+            spent[pid, *name_of(words, folder)] = seconds
 
 
 def crates_of(text):
@@ -50,63 +64,28 @@ def crates_of(text):
     return [line.split(":")[0].split()[0] for line in lines if line]
 
 
-def arguments_of(folder):
-    """The words that a program is run with. The files that they name lie in data/."""
-    words = folder / "args"
-    if not words.exists():
-        return []
-    return [f"data/{word}" if (folder / "data" / word).exists() else word for word in words.read_text().split()]
-
-
-class Crate:
-    def __init__(self, copy, name):
-        self.copy, self.name, self.folder = copy, name, copy / "crates" / name
-
-    def has_tests(self):
-        return any("#[test]" in file.read_text() for file in self.folder.glob("src/**/*.rt"))
-
-    def is_program(self):
-        return (self.folder / "src/main.rt").exists()
-
-    def row(self):
-        """Proof, tests, runs and edits."""
-        timed(self.folder, ["rt", "check"])
-        proved = timed(self.folder, ["rt", "verdict"])
-        proof, tests = (Cell(), proved) if self.has_tests() else (proved, Cell())
-        return [proof, tests, self.runs(), self.edits()]
-
-    def runs(self):
-        if not self.is_program():
-            return Cell()
-        words = ["--", *arguments_of(self.folder)]
-        return timed(self.folder, ["rt", "run", *words], ["rt", "run", "--backend", "rattle", *words])
-
-    def edits(self):
-        if not list(self.folder.glob("must-fail/*.edit")):
-            return Cell()
-        return timed(self.copy, ["rt", "must-fail", "--anew", self.name])
-
-
-def print_row(name, cells):
-    print(f"| {name} | {' | '.join(str(cell) for cell in cells)} |", flush=True)
-
-
 def main():
     folder = pathlib.Path(tempfile.mkdtemp(prefix="times-"))
     copy = folder / "repository"
-    subprocess.run(["git", "clone", "-q", str(top), str(copy)], check=True)
-    print("| crate | proof | tests | runs | edits |\n|---|---|---|---|---|", flush=True)
-    rows = []
-    for name in sys.argv[1:] or crates_of((copy / "crates.txt").read_text()):
-        rows.append(Crate(copy, name).row())
-        print_row(name, rows[-1])
-    columns = [Cell(sum(cell.seconds or 0 for cell in column), all(cell.is_well for cell in column)) for column in zip(*rows)]
-    print_row("all", columns)
-    if not all(cell.is_well for cell in columns):
-        print(f"not all calls ended well: see {copy}", file=sys.stderr)
-        return 1
+    subprocess.run(["git", "clone", "-q", str(TOP), str(copy)], check=True)
+    begun = time.monotonic()
+    with open(sys.argv[1] if len(sys.argv) > 1 else os.devnull, "w") as output:
+        gate = subprocess.Popen(["rt", "ci", "--anew"], cwd=copy, stdout=output, stderr=output, stdin=subprocess.DEVNULL)
+        spent = {}
+        while gate.poll() is None:
+            spent_below(gate.pid, spent)
+            time.sleep(1 / LOOKS_A_SECOND)
+    table = collections.Counter()
+    for (_, crate, kind), seconds in spent.items():
+        table[crate, kind] += seconds
+    print("| crate | proof | tests | edits |\n|---|---|---|---|")
+    for crate in crates_of((copy / "crates.txt").read_text()):
+        print(f"| {crate} | {' | '.join(f'{table[crate, kind]:.0f}' if table[crate, kind] >= 1 else '' for kind in KINDS)} |")
+    print(f"| beside them | {table['', 'proof']:.0f} | | |")
+    print(f"| all | {' | '.join(f'{sum(n for (c, k), n in table.items() if k == kind):.0f}' for kind in KINDS)} |")
+    print(f"{sum(table.values()) / 60:.0f} processor minutes, {(time.monotonic() - begun) / 60:.0f} minutes", flush=True)
     shutil.rmtree(folder)
-    return 0
+    return gate.returncode
 
 
 if __name__ == "__main__":
