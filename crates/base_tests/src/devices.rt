@@ -16,13 +16,7 @@ impl Device for Hidden {
     ghost use Rattle.std.specs.Prelude.{None, length};
     ghost use Rattle.dev_model.specs.Laws.Plans.{no_story};
 
-    ghost pages = { λ d. d.inner.pages };
-
-    ghost clock = { λ d. length d.inner.past };
-
-    ghost fault_count = { λ d. d.inner.faults };
-
-    ghost story = { λ _. None };
+    ghost seen = { λ d. record { pages = d.inner.pages; clock = length d.inner.past; faults = d.inner.faults; story = None } };
 
     fn pages(&self) -> u32 {
         self.inner.pages()
@@ -59,8 +53,8 @@ fn one_page(alloc: Global, fail: Vec<u64>) -> Result<MemDevice, AllocError>
 }
 
 fn six_bytes<D: Device>(device: &mut D) -> Result<[u8; 6], Failed>
-    requires { 1 ≤ D.pages device.old }
-    ensures { D.pages device.new ≡ D.pages device.old }
+    requires { 1 ≤ (D.seen device.old).pages }
+    ensures { (D.seen device.new).pages ≡ (D.seen device.old).pages }
 {
     let mut buf = [0; 6];
     device.read(0, &mut buf)?;

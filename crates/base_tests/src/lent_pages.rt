@@ -19,8 +19,8 @@ fn first_byte<P: Pages>(pages: &mut P, page: u32) -> Result<u8, Failed>
 
 /// The first bytes of the pages 1, 2 and again 1.
 fn first_bytes<D: Device>(device: &mut D) -> [Result<u8, Failed>; 3]
-    requires { 3 ≤ D.pages device.old }
-    ensures { D.pages device.new ≡ D.pages device.old }
+    requires { 3 ≤ (D.seen device.old).pages }
+    ensures { (D.seen device.new).pages ≡ (D.seen device.old).pages }
 {
     let extents = [Extent { first: 1, pages: 2 }];
     let mut pages = DevicePages::new(device, &extents);

@@ -22,22 +22,22 @@ use dev_model::{Device, Failed, write_synced};
 /// to stay as it is.
 pub fn write_slot<D: Device>(device: &mut D, n: u16, slot: &Slot) -> Result<(), Failed>
     requires below { n < SLOTS }
-    requires pages { DIRECTORY_PAGES ≤ D.pages device.old }
+    requires pages { DIRECTORY_PAGES ≤ (D.seen device.old).pages }
 
-    ensures did { Did (write_calls n slot.now) (D.story device.old) (D.story device.new) result }
-    ensures ticks { Ticks 1 (D.clock device.old) (D.clock device.new) result }
-    ensures within { WhereTold (D.story device.old) (λ s. WritesWithin (slot_start n + 1) SLOT_BODY_BYTES s (D.story device.new)) }
+    ensures did { Did (write_calls n slot.now) (D.seen device.old).story (D.seen device.new).story result }
+    ensures ticks { Ticks 1 (D.seen device.old).clock (D.seen device.new).clock result }
+    ensures within { WhereTold (D.seen device.old).story (λ s. WritesWithin (slot_start n + 1) SLOT_BODY_BYTES s (D.seen device.new).story) }
 
     // Where the slot is closed, each crash at each moment of the call leaves the old directory, and it stays on the disk.
-    ensures any_moment { WhereTold (D.story device.old) (λ s. IsAtRest s → IsClosed n s → LeavesOnly s (D.story device.new)
+    ensures any_moment { WhereTold (D.seen device.old).story (λ s. IsAtRest s → IsClosed n s → LeavesOnly s (D.seen device.new).story
         (λ image. directory_of image ≡ directory_of (bytes_of s))) }
-    ensures at_rest { WhereTold (D.story device.old) (λ s. IsAtRest s → IsClosed n s → WhereTold (D.story device.new) IsAtRest) }
-    ensures same { WhereTold (D.story device.old) (λ s. IsAtRest s → IsClosed n s → WhereTold (D.story device.new)
+    ensures at_rest { WhereTold (D.seen device.old).story (λ s. IsAtRest s → IsClosed n s → WhereTold (D.seen device.new).story IsAtRest) }
+    ensures same { WhereTold (D.seen device.old).story (λ s. IsAtRest s → IsClosed n s → WhereTold (D.seen device.new).story
         (λ t. directory_of (bytes_of t) ≡ directory_of (bytes_of s))) }
-    ensures written { OnOk result (WhereTold (D.story device.old) (λ s. IsClosed n s → WhereTold (D.story device.new) (IsWritten n slot.now))) }
+    ensures written { OnOk result (WhereTold (D.seen device.old).story (λ s. IsClosed n s → WhereTold (D.seen device.new).story (IsWritten n slot.now))) }
 
-    ensures same_pages { D.pages device.new ≡ D.pages device.old }
-    ensures cause { HasCause (D.fault_count device.old) (D.fault_count device.new) result }
+    ensures same_pages { (D.seen device.new).pages ≡ (D.seen device.old).pages }
+    ensures cause { HasCause (D.seen device.old).faults (D.seen device.new).faults result }
 {
     device.write(slot_start(n) + 1, &spelled(slot))
 }
@@ -45,21 +45,21 @@ pub fn write_slot<D: Device>(device: &mut D, n: u16, slot: &Slot) -> Result<(), 
 /// Opens the gate of slot `n` and syncs. The slot's bytes have to be on the disk by then, and the gate closed.
 pub fn open_gate<D: Device>(device: &mut D, n: u16) -> Result<(), Failed>
     requires below { n < SLOTS }
-    requires pages { DIRECTORY_PAGES ≤ D.pages device.old }
+    requires pages { DIRECTORY_PAGES ≤ (D.seen device.old).pages }
 
-    ensures did { Did (open_calls n) (D.story device.old) (D.story device.new) result }
-    ensures ticks { Ticks 2 (D.clock device.old) (D.clock device.new) result }
-    ensures within { WhereTold (D.story device.old) (λ s. WritesWithin (slot_start n) 1 s (D.story device.new)) }
+    ensures did { Did (open_calls n) (D.seen device.old).story (D.seen device.new).story result }
+    ensures ticks { Ticks 2 (D.seen device.old).clock (D.seen device.new).clock result }
+    ensures within { WhereTold (D.seen device.old).story (λ s. WritesWithin (slot_start n) 1 s (D.seen device.new).story) }
 
     // Each crash at each moment of the call leaves the old directory, or this with the slot open.
-    ensures any_moment { (slot : Slot) → WhereTold (D.story device.old) (λ s. IsAtRest s → IsReady n slot s → LeavesOnly s (D.story device.new)
+    ensures any_moment { (slot : Slot) → WhereTold (D.seen device.old).story (λ s. IsAtRest s → IsReady n slot s → LeavesOnly s (D.seen device.new).story
         (λ image. IsOneOf (directory_of (bytes_of s)) (with_slot n slot (directory_of (bytes_of s))) (directory_of image))) }
-    ensures at_rest { (slot : Slot) → OnOk result (WhereTold (D.story device.old) (λ s. IsAtRest s → IsReady n slot s → WhereTold (D.story device.new) IsAtRest)) }
-    ensures opened { (slot : Slot) → OnOk result (WhereTold (D.story device.old) (λ s. IsAtRest s → IsReady n slot s → WhereTold (D.story device.new)
+    ensures at_rest { (slot : Slot) → OnOk result (WhereTold (D.seen device.old).story (λ s. IsAtRest s → IsReady n slot s → WhereTold (D.seen device.new).story IsAtRest)) }
+    ensures opened { (slot : Slot) → OnOk result (WhereTold (D.seen device.old).story (λ s. IsAtRest s → IsReady n slot s → WhereTold (D.seen device.new).story
         (λ t. directory_of (bytes_of t) ≡ with_slot n slot (directory_of (bytes_of s))))) }
 
-    ensures same_pages { D.pages device.new ≡ D.pages device.old }
-    ensures cause { HasCause (D.fault_count device.old) (D.fault_count device.new) result }
+    ensures same_pages { (D.seen device.new).pages ≡ (D.seen device.old).pages }
+    ensures cause { HasCause (D.seen device.old).faults (D.seen device.new).faults result }
 {
     write_synced(device, slot_start(n), &[OPEN])
 }
@@ -68,21 +68,21 @@ pub fn open_gate<D: Device>(device: &mut D, n: u16) -> Result<(), Failed>
 /// is written a crash may open it.
 pub fn close_gate<D: Device>(device: &mut D, n: u16) -> Result<(), Failed>
     requires below { n < SLOTS }
-    requires pages { DIRECTORY_PAGES ≤ D.pages device.old }
+    requires pages { DIRECTORY_PAGES ≤ (D.seen device.old).pages }
 
-    ensures did { Did (close_calls n) (D.story device.old) (D.story device.new) result }
-    ensures ticks { Ticks 2 (D.clock device.old) (D.clock device.new) result }
-    ensures within { WhereTold (D.story device.old) (λ s. WritesWithin (slot_start n) 1 s (D.story device.new)) }
+    ensures did { Did (close_calls n) (D.seen device.old).story (D.seen device.new).story result }
+    ensures ticks { Ticks 2 (D.seen device.old).clock (D.seen device.new).clock result }
+    ensures within { WhereTold (D.seen device.old).story (λ s. WritesWithin (slot_start n) 1 s (D.seen device.new).story) }
 
     // Each crash at each moment of the call leaves the old directory, or this without the slot.
-    ensures any_moment { WhereTold (D.story device.old) (λ s. IsAtRest s → IsOpen n s → LeavesOnly s (D.story device.new)
+    ensures any_moment { WhereTold (D.seen device.old).story (λ s. IsAtRest s → IsOpen n s → LeavesOnly s (D.seen device.new).story
         (λ image. IsOneOf (directory_of (bytes_of s)) (without_slot n (directory_of (bytes_of s))) (directory_of image))) }
-    ensures at_rest { OnOk result (WhereTold (D.story device.old) (λ s. IsAtRest s → IsOpen n s → WhereTold (D.story device.new) IsAtRest)) }
-    ensures closed { OnOk result (WhereTold (D.story device.old) (λ s. IsAtRest s → IsOpen n s → WhereTold (D.story device.new)
+    ensures at_rest { OnOk result (WhereTold (D.seen device.old).story (λ s. IsAtRest s → IsOpen n s → WhereTold (D.seen device.new).story IsAtRest)) }
+    ensures closed { OnOk result (WhereTold (D.seen device.old).story (λ s. IsAtRest s → IsOpen n s → WhereTold (D.seen device.new).story
         (λ t. directory_of (bytes_of t) ≡ without_slot n (directory_of (bytes_of s))))) }
 
-    ensures same_pages { D.pages device.new ≡ D.pages device.old }
-    ensures cause { HasCause (D.fault_count device.old) (D.fault_count device.new) result }
+    ensures same_pages { (D.seen device.new).pages ≡ (D.seen device.old).pages }
+    ensures cause { HasCause (D.seen device.old).faults (D.seen device.new).faults result }
 {
     write_synced(device, slot_start(n), &[CLOSED])
 }
@@ -90,21 +90,21 @@ pub fn close_gate<D: Device>(device: &mut D, n: u16) -> Result<(), Failed>
 /// Writes slot `n`, whose gate is closed, and opens it: a write, a sync, a write and a sync. It stops at the call that fails.
 pub fn install_slot<D: Device>(device: &mut D, n: u16, slot: &Slot) -> Result<(), Failed>
     requires below { n < SLOTS }
-    requires pages { DIRECTORY_PAGES ≤ D.pages device.old }
+    requires pages { DIRECTORY_PAGES ≤ (D.seen device.old).pages }
 
-    ensures did { Did (install_calls n slot.now) (D.story device.old) (D.story device.new) result }
-    ensures ticks { Ticks 4 (D.clock device.old) (D.clock device.new) result }
-    ensures within { WhereTold (D.story device.old) (λ s. WritesWithin (slot_start n) SLOT_BYTES s (D.story device.new)) }
+    ensures did { Did (install_calls n slot.now) (D.seen device.old).story (D.seen device.new).story result }
+    ensures ticks { Ticks 4 (D.seen device.old).clock (D.seen device.new).clock result }
+    ensures within { WhereTold (D.seen device.old).story (λ s. WritesWithin (slot_start n) SLOT_BYTES s (D.seen device.new).story) }
 
     // Each crash at each moment of the call leaves the old directory, or this with the slot open.
-    ensures any_moment { WhereTold (D.story device.old) (λ s. IsAtRest s → IsClosed n s → LeavesOnly s (D.story device.new)
+    ensures any_moment { WhereTold (D.seen device.old).story (λ s. IsAtRest s → IsClosed n s → LeavesOnly s (D.seen device.new).story
         (λ image. IsOneOf (directory_of (bytes_of s)) (with_slot n slot.now (directory_of (bytes_of s))) (directory_of image))) }
-    ensures at_rest { OnOk result (WhereTold (D.story device.old) (λ s. IsAtRest s → IsClosed n s → WhereTold (D.story device.new) IsAtRest)) }
-    ensures installed { OnOk result (WhereTold (D.story device.old) (λ s. IsAtRest s → IsClosed n s → WhereTold (D.story device.new)
+    ensures at_rest { OnOk result (WhereTold (D.seen device.old).story (λ s. IsAtRest s → IsClosed n s → WhereTold (D.seen device.new).story IsAtRest)) }
+    ensures installed { OnOk result (WhereTold (D.seen device.old).story (λ s. IsAtRest s → IsClosed n s → WhereTold (D.seen device.new).story
         (λ t. directory_of (bytes_of t) ≡ with_slot n slot.now (directory_of (bytes_of s))))) }
 
-    ensures same_pages { D.pages device.new ≡ D.pages device.old }
-    ensures cause { HasCause (D.fault_count device.old) (D.fault_count device.new) result }
+    ensures same_pages { (D.seen device.new).pages ≡ (D.seen device.old).pages }
+    ensures cause { HasCause (D.seen device.old).faults (D.seen device.new).faults result }
 {
     write_slot(device, n, slot)?;
     device.sync()?;

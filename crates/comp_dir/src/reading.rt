@@ -105,12 +105,12 @@ fn read_page<D: Device>(
     page: &mut [u8; PAGE_BYTES],
 ) -> Result<(), Failed>
     requires below { number < SLOT_PAGES }
-    requires pages { DIRECTORY_PAGES ≤ D.pages device.old }
-    ensures shows { OnOk result (WhereTold (D.story device.old) (λ s. IsAtRest s → Shows (PAGE_SLOTS * number) page.new (bytes_of s))) }
-    ensures reads { WhereTold (D.story device.old) (λ s. ReadsDirectory s (D.story device.new)) }
-    ensures ticks { Ticks 1 (D.clock device.old) (D.clock device.new) result }
-    ensures same_pages { D.pages device.new ≡ D.pages device.old }
-    ensures cause { HasCause (D.fault_count device.old) (D.fault_count device.new) result }
+    requires pages { DIRECTORY_PAGES ≤ (D.seen device.old).pages }
+    ensures shows { OnOk result (WhereTold (D.seen device.old).story (λ s. IsAtRest s → Shows (PAGE_SLOTS * number) page.new (bytes_of s))) }
+    ensures reads { WhereTold (D.seen device.old).story (λ s. ReadsDirectory s (D.seen device.new).story) }
+    ensures ticks { Ticks 1 (D.seen device.old).clock (D.seen device.new).clock result }
+    ensures same_pages { (D.seen device.new).pages ≡ (D.seen device.old).pages }
+    ensures cause { HasCause (D.seen device.old).faults (D.seen device.new).faults result }
 {
     device.read(
         DIRECTORY_START + u64::from(number) * PAGE_BYTES as u64,
@@ -126,17 +126,17 @@ fn add_next_page<D: Device>(
     found: &mut Vec<(u16, Slot)>,
 ) -> Result<(), DirFault>
     requires below { number < SLOT_PAGES }
-    requires pages { DIRECTORY_PAGES ≤ D.pages device.old }
-    ensures added { OnOk result (WhereTold (D.story device.old) (λ s. IsAtRest s → HasFound asked.now.pages asked.now.declared (PAGE_SLOTS * number) (bytes_of s) found.old.items
+    requires pages { DIRECTORY_PAGES ≤ (D.seen device.old).pages }
+    ensures added { OnOk result (WhereTold (D.seen device.old).story (λ s. IsAtRest s → HasFound asked.now.pages asked.now.declared (PAGE_SLOTS * number) (bytes_of s) found.old.items
         → HasFound asked.now.pages asked.now.declared (PAGE_SLOTS * number + PAGE_SLOTS) (bytes_of s) found.new.items)) }
     ensures lawful { OnOk result (AreLawful asked.now.pages asked.now.declared (PAGE_SLOTS * number) found.old.items
         → AreLawful asked.now.pages asked.now.declared (PAGE_SLOTS * number + PAGE_SLOTS) found.new.items) }
-    ensures bad { IfErr result (λ fault. WhereBad fault (λ n. WhereTold (D.story device.old) (λ s. IsAtRest s
+    ensures bad { IfErr result (λ fault. WhereBad fault (λ n. WhereTold (D.seen device.old).story (λ s. IsAtRest s
         → HasFound asked.now.pages asked.now.declared (PAGE_SLOTS * number) (bytes_of s) found.old.items → IsUnsoundAt asked.now.pages asked.now.declared (bytes_of s) n))) }
-    ensures reads { WhereTold (D.story device.old) (λ s. ReadsDirectory s (D.story device.new)) }
-    ensures ticks { Ticks 1 (D.clock device.old) (D.clock device.new) result }
-    ensures same_pages { D.pages device.new ≡ D.pages device.old }
-    ensures cause { HasCauseOfFault (D.fault_count device.old) (D.fault_count device.new) result }
+    ensures reads { WhereTold (D.seen device.old).story (λ s. ReadsDirectory s (D.seen device.new).story) }
+    ensures ticks { Ticks 1 (D.seen device.old).clock (D.seen device.new).clock result }
+    ensures same_pages { (D.seen device.new).pages ≡ (D.seen device.old).pages }
+    ensures cause { HasCauseOfFault (D.seen device.old).faults (D.seen device.new).faults result }
 {
     let mut page = [0; PAGE_BYTES];
     match read_page(device, number, &mut page) {
@@ -152,20 +152,20 @@ pub fn read_dir<D: Device>(
     declared: IndexSet,
     alloc: Global,
 ) -> Result<Vec<(u16, Slot)>, DirFault>
-    requires { DIRECTORY_PAGES ≤ D.pages device.old }
+    requires { DIRECTORY_PAGES ≤ (D.seen device.old).pages }
 
     // Of a directory that is on the disk.
-    ensures slots { IfOk result (λ found. WhereTold (D.story device.old) (λ s. IsAtRest s → found.items ≡ open_slots (directory_of (bytes_of s)))) }
-    ensures obeyed { OnOk result (WhereTold (D.story device.old) (λ s. IsAtRest s → AllObey (D.pages device.old) declared (directory_of (bytes_of s)))) }
-    ensures bad { IfErr result (λ fault. WhereBad fault (λ n. WhereTold (D.story device.old) (λ s. IsAtRest s
-        → IsFirstUnsound (D.pages device.old) declared (directory_of (bytes_of s)) n))) }
+    ensures slots { IfOk result (λ found. WhereTold (D.seen device.old).story (λ s. IsAtRest s → found.items ≡ open_slots (directory_of (bytes_of s)))) }
+    ensures obeyed { OnOk result (WhereTold (D.seen device.old).story (λ s. IsAtRest s → AllObey (D.seen device.old).pages declared (directory_of (bytes_of s)))) }
+    ensures bad { IfErr result (λ fault. WhereBad fault (λ n. WhereTold (D.seen device.old).story (λ s. IsAtRest s
+        → IsFirstUnsound (D.seen device.old).pages declared (directory_of (bytes_of s)) n))) }
 
     // Of each device.
-    ensures lawful { IfOk result (λ found. AreLawful (D.pages device.old) declared SLOTS found.items) }
-    ensures reads { WhereTold (D.story device.old) (λ s. ReadsDirectory s (D.story device.new)) }
-    ensures ticks { Ticks SLOT_PAGES (D.clock device.old) (D.clock device.new) result }
-    ensures same_pages { D.pages device.new ≡ D.pages device.old }
-    ensures cause { HasCauseOfFault (D.fault_count device.old) (D.fault_count device.new) result }
+    ensures lawful { IfOk result (λ found. AreLawful (D.seen device.old).pages declared SLOTS found.items) }
+    ensures reads { WhereTold (D.seen device.old).story (λ s. ReadsDirectory s (D.seen device.new).story) }
+    ensures ticks { Ticks SLOT_PAGES (D.seen device.old).clock (D.seen device.new).clock result }
+    ensures same_pages { (D.seen device.new).pages ≡ (D.seen device.old).pages }
+    ensures cause { HasCauseOfFault (D.seen device.old).faults (D.seen device.new).faults result }
 {
     let pages = device.pages();
     let asked = Asked { declared, pages };

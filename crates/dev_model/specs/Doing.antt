@@ -1,6 +1,7 @@
 -- Which calls were made on a device, told or not, how far they came, and how far the clock went.
-use Rattle.std.specs.Prelude.{◌≡◌, ◌⊎◌, ℕ, ◌+◌, ◌≤◌, [], ◌∷◌, Option, Result, Ok, Err, option_map}
-use Rattle.dev_model.specs.Story.{Call, Calls, Story, with_call, Read, Write, Sync, FailedWrite, FailedCall}
+use Rattle.std.specs.Prelude.{◌≡◌, ◌⊎◌, ℕ, ◌+◌, ◌≤◌, [], ◌∷◌, length, Option, Result, Ok, Err, option_map}
+use Rattle.dev_model.specs.Counts.{HasCause}
+use Rattle.dev_model.specs.Story.{Call, DeviceState, Calls, Story, with_call, Read, Write, Sync, FailedWrite, FailedCall}
 
 -- a story that is told goes on by this call
 abbrev pub noted : Call → Option Story → Option Story
@@ -38,3 +39,10 @@ Did calls old new (Err e) = HasStoppedIn calls old new
 abbrev pub Ticks : {X E : Type 0} → ℕ → ℕ → ℕ → Result X E → Type 0
 Ticks count old new (Ok x) = new ≡ old + count
 Ticks count old new (Err e) = (old ≤ new) × (new ≤ old + count)
+
+-- what a call made on its device: these calls, or the first of them up to one that failed
+pub record Made {X E : Type 0} (calls : Calls) (old new : DeviceState) (result : Result X E) : Type 0 where
+  pub did : Did calls old.story new.story result
+  pub ticks : Ticks (length calls) old.clock new.clock result
+  pub same_pages : new.pages ≡ old.pages
+  pub cause : HasCause old.faults new.faults result

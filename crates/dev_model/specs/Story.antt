@@ -6,6 +6,10 @@ use Rattle.std.specs.Ordering.{nat_cmp, MatchOrdering}
 abbrev pub Bytes : Type 0
 Bytes = ℕ → ℕ
 
+-- the bytes of a list, and 0 past its end
+abbrev pub place : List ℕ → Bytes
+place bytes i = slice_index bytes i
+
 -- A call of a device that has returned. A write that failed may have left anything in its range;
 -- every other call that failed changed nothing.
 pub data Call : Type 0 where
@@ -23,9 +27,9 @@ Past = List Call
 abbrev pub Calls : Type 0
 Calls = List Call
 
--- the bytes at clock 0, and each call since
+-- the bytes at clock 0, with 0 past their end, and each call since
 pub record Story : Type 0 where
-  pub start : Bytes
+  pub start : List ℕ
   pub past : Past
 
 -- how many calls there were, failed ones too
@@ -40,6 +44,13 @@ with_call s call = record { start = s.start; past = call ∷ s.past }
 abbrev pub after : Story → Calls → Story
 after s [] = s
 after s (call ∷ calls) = after (with_call s call) calls
+
+-- What there is to see of a device: its length in pages, its clock and its count of faults, and its story where it tells one.
+pub record DeviceState : Type 0 where
+  pub pages : ℕ
+  pub clock : ℕ
+  pub faults : ℕ
+  pub story : Option Story
 
 -- the place is not in a range
 abbrev pub IsOutside : (at count i : ℕ) → Type 0
@@ -62,7 +73,7 @@ bytes_after start (other ∷ past) = bytes_after start past
 
 -- the bytes as read now
 abbrev pub bytes_of : Story → Bytes
-bytes_of s = bytes_after s.start s.past
+bytes_of s = bytes_after (place s.start) s.past
 
 -- no write has failed at this place since it was last written: a read there gives the byte as read.
 -- Where one has failed, a read may give anything.
@@ -97,7 +108,7 @@ IsImageDuring s call image = (i : ℕ) → IsSpared call i → IsSettled s.past 
 
 -- What a crash may leave at moment m: call m has returned, and call m + 1 has not. Where call m + 1 is in the story
 -- it is under way.
-abbrev pub IsImageAt : Bytes → Past → ℕ → Bytes → Type 0
+abbrev pub IsImageAt : (start : List ℕ) → Past → ℕ → Bytes → Type 0
 IsImageAt start [] m image = IsImageNow (record { start = start; past = [] }) image
 IsImageAt start (call ∷ past) m image =
     MatchOrdering (nat_cmp m (length past))

@@ -12,7 +12,7 @@ example_superblock = 1 ∷ 4 ∷ 0 ∷ 0 ∷ 0 ∷ 16 ∷ 0 ∷ 76 ∷ 83 ∷ 77
 
 -- a device of zeros on which nothing has happened
 abbrev pub zero_story : Story
-zero_story = record { start = λ _. 0; past = [] }
+zero_story = record { start = []; past = [] }
 
 -- so many calls are planned
 abbrev pub AreCounted : Type 0

@@ -20,26 +20,26 @@ use wal_log::start_segment;
 /// and in the end the empty one. `Failed` comes where a call of the device failed, and that call was the last: any of the
 /// three may be there then, and the device may be formatted again. No memory is taken.
 pub fn format_dev<D: Device>(device: &mut D, indexes: IndexSet) -> Result<(), Failed>
-    requires pages { LOG_PAGES ≤ D.pages device.old }
+    requires pages { LOG_PAGES ≤ (D.seen device.old).pages }
 
     // The calls that were made, in their order.
-    ensures did { Formats indexes (D.pages device.old) (D.story device.old) (D.story device.new) (D.clock device.old) (D.clock device.new) result }
+    ensures did { Formats indexes (D.seen device.old).pages (D.seen device.old).story (D.seen device.new).story (D.seen device.old).clock (D.seen device.new).clock result }
 
     // After `Ok` the empty store is there, whatever was before.
-    ensures formatted { OnOk result (WhereTold (D.story device.new) (IsFreshStore (D.pages device.old) indexes)) }
+    ensures formatted { OnOk result (WhereTold (D.seen device.new).story (IsFreshStore (D.seen device.old).pages indexes)) }
 
     // Where the superblock's gate was on the disk, each crash at each moment of the call leaves all that was on the disk, or no
     // store, or the empty one.
-    ensures any_moment { WhereTold (D.story device.old) (λ s. IsSettled s.past 0 → LeavesOnly s (D.story device.new)
-        (IsBeforeOrAfter (D.pages device.old) indexes s)) }
+    ensures any_moment { WhereTold (D.seen device.old).story (λ s. IsSettled s.past 0 → LeavesOnly s (D.seen device.new).story
+        (IsBeforeOrAfter (D.seen device.old).pages indexes s)) }
 
     // Where each crash before the call left no store, each crash at each moment of the call leaves none, or the empty one. What
     // stands elsewhere doesn't matter, nor whether it is on the disk.
-    ensures over_none { WhereTold (D.story device.old) (λ s. HasNoStore s → LeavesOnly s (D.story device.new)
-        (IsNoneOrEmpty (D.pages device.old) indexes)) }
+    ensures over_none { WhereTold (D.seen device.old).story (λ s. HasNoStore s → LeavesOnly s (D.seen device.new).story
+        (IsNoneOrEmpty (D.seen device.old).pages indexes)) }
 
-    ensures same_pages { D.pages device.new ≡ D.pages device.old }
-    ensures cause { HasCause (D.fault_count device.old) (D.fault_count device.new) result }
+    ensures same_pages { (D.seen device.new).pages ≡ (D.seen device.old).pages }
+    ensures cause { HasCause (D.seen device.old).faults (D.seen device.new).faults result }
 {
     let is_open = is_superblock_open(device)?;
     write_store(device, is_open, indexes)
@@ -47,11 +47,11 @@ pub fn format_dev<D: Device>(device: &mut D, indexes: IndexSet) -> Result<(), Fa
 
 /// Writes the empty store, over a superblock that is open or closed.
 fn write_store<D: Device>(device: &mut D, is_open: bool, indexes: IndexSet) -> Result<(), Failed>
-    requires { LOG_PAGES ≤ D.pages device.old }
-    ensures did { Did (write_calls is_open indexes (D.pages device.old)) (D.story device.old) (D.story device.new) result }
-    ensures ticks { Ticks (write_ticks is_open) (D.clock device.old) (D.clock device.new) result }
-    ensures same_pages { D.pages device.new ≡ D.pages device.old }
-    ensures cause { HasCause (D.fault_count device.old) (D.fault_count device.new) result }
+    requires { LOG_PAGES ≤ (D.seen device.old).pages }
+    ensures did { Did (write_calls is_open indexes (D.seen device.old).pages) (D.seen device.old).story (D.seen device.new).story result }
+    ensures ticks { Ticks (write_ticks is_open) (D.seen device.old).clock (D.seen device.new).clock result }
+    ensures same_pages { (D.seen device.new).pages ≡ (D.seen device.old).pages }
+    ensures cause { HasCause (D.seen device.old).faults (D.seen device.new).faults result }
 {
     close_superblock_if(device, is_open)?;
     close_gates(device)?;

@@ -24,11 +24,11 @@ pub fn spelled(indexes: IndexSet, pages: u32) -> [u8; 15]
 
 /// Writes the superblock, and opens its gate once the rest is on the disk.
 pub fn write_superblock<D: Device>(device: &mut D, indexes: IndexSet) -> Result<(), Failed>
-    requires { LOG_PAGES ≤ D.pages device.old }
-    ensures did { Did (write_superblock indexes (D.pages device.old)) (D.story device.old) (D.story device.new) result }
-    ensures ticks { Ticks 4 (D.clock device.old) (D.clock device.new) result }
-    ensures same_pages { D.pages device.new ≡ D.pages device.old }
-    ensures cause { HasCause (D.fault_count device.old) (D.fault_count device.new) result }
+    requires { LOG_PAGES ≤ (D.seen device.old).pages }
+    ensures did { Did (write_superblock indexes (D.seen device.old).pages) (D.seen device.old).story (D.seen device.new).story result }
+    ensures ticks { Ticks 4 (D.seen device.old).clock (D.seen device.new).clock result }
+    ensures same_pages { (D.seen device.new).pages ≡ (D.seen device.old).pages }
+    ensures cause { HasCause (D.seen device.old).faults (D.seen device.new).faults result }
 {
     let pages = device.pages();
     write_synced(device, 1, &spelled(indexes, pages))?;

@@ -2,13 +2,12 @@
 use Rattle.std.proofs.Common.{◌≡◌, inl, inr, ℕ, ◌+◌, ◌-◌, ◌*◌, ◌^◌, ◌≤◌, Bool, true, false, List, [], ◌∷◌, length, Option, Some, None, Result, Ok, Err, refl, sym, ◌∙◌, ap, subst, arith}
 use Rattle.std.specs.Prelude.{IsTrue, OnOk, is_ok, nat_lt, if◌then◌else◌}
 use Rattle.space_map.specs.declared.space.Extent.{Extent}
-use Rattle.dev_model.specs.Counts.{next_count}
-use Rattle.dev_model.specs.Story.{Read, FailedCall, Calls, Story, clock_of, with_call, bytes_of, WhereTold, IsReadable, part}
+use Rattle.dev_model.specs.Story.{DeviceState, Read, FailedCall, Calls, Story, clock_of, with_call, bytes_of, WhereTold, IsReadable, part}
 use Rattle.dev_model.specs.Doing.{noted, all_noted, HasChangedNothing}
-use Rattle.dev_model.specs.Answers.{Tells, IsReadFrom}
+use Rattle.dev_model.specs.Answers.{MadeCall, Tells, IsReadFrom}
 use Rattle.dev_model.specs.Laws.Ranges.{part-read}
 use Rattle.device_pages.specs.declared.lending.TheConstants.{PAGE_BYTES}
-use Rattle.device_pages.specs.Asked.{Seen, Asked}
+use Rattle.device_pages.specs.Asked.{Asked}
 use Rattle.device_pages.specs.Lending.{page_bytes, contents_of}
 use Rattle.device_pages.specs.Lent.{is_lent}
 use Rattle.device_pages.specs.LentPlaces.{IsLentPlace}
@@ -39,19 +38,18 @@ clock_after clock new_clock true time = time
 clock_after clock new_clock false time = omega (arith, time)
 
 -- a page that was read, or not
-pub asked-read : {X E : Type 0} (page at count : ℕ) (result : Result X E) (old new : Seen) → at ≡ page * PAGE_BYTES → count ≡ PAGE_BYTES → new.pages ≡ old.pages
-    → Tells (Read at count) old.story new.story result → new.clock ≡ next_count old.clock → OnOk result (new.clock ≡ old.clock + 1)
+pub asked-read : {X E : Type 0} (page at count : ℕ) (result : Result X E) (old new : DeviceState) → at ≡ page * PAGE_BYTES → count ≡ PAGE_BYTES → MadeCall (Read at count) old new result
     → ((s : Story) → old.story ≡ Some s → old.clock ≡ clock_of s) → ((s : Story) → new.story ≡ Some s → new.clock ≡ clock_of s)
     → Asked ((page, is_ok result) ∷ []) old new
-asked-read page at count (Ok x) old new place size same told time ticks before now = record {
-  same_pages = same;
-  clock = ticks;
-  told = told ∙ (λ j. noted (Read (place j) (size j)) old.story);
+asked-read page at count (Ok x) old new place size made before now = record {
+  same_pages = made.same_pages;
+  clock = made.ticks;
+  told = made.told ∙ (λ j. noted (Read (place j) (size j)) old.story);
 }
-asked-read page at count (Err e) old new place size same told time ticks before now = record {
-  same_pages = same;
-  clock = clock_after old.clock new.clock (nat_lt old.clock (2 ^ 64 - 1)) time;
-  told = told_after old.clock new.clock old.story new.story (nat_lt old.clock (2 ^ 64 - 1)) time told before now;
+asked-read page at count (Err e) old new place size made before now = record {
+  same_pages = made.same_pages;
+  clock = clock_after old.clock new.clock (nat_lt old.clock (2 ^ 64 - 1)) made.time;
+  told = told_after old.clock new.clock old.story new.story (nat_lt old.clock (2 ^ 64 - 1)) made.time made.told before now;
 }
 
 -- what a page that was read has put into the buffer

@@ -1,17 +1,8 @@
 -- What asking for pages makes of a device.
-use Rattle.std.specs.Prelude.{◌≡◌, ℕ, ◌+◌, ◌-◌, ◌*◌, ◌^◌, Bool, true, false, nat_lt, if◌then◌else◌, List, [], ◌∷◌, length, map, Option}
-use Rattle.dev_model.specs.Story.{Call, Read, FailedCall, Calls, Story}
+use Rattle.std.specs.Prelude.{◌≡◌, ℕ, ◌+◌, ◌-◌, ◌*◌, ◌^◌, Bool, true, false, nat_lt, if◌then◌else◌, List, [], ◌∷◌, length, map}
+use Rattle.dev_model.specs.Story.{Call, DeviceState, Read, FailedCall, Calls}
 use Rattle.dev_model.specs.Doing.{all_noted}
 use Rattle.device_pages.specs.declared.lending.TheConstants.{PAGE_BYTES}
-
--- what a reader sees of a device
-pub record Seen : Type 0 where
-  pub pages : ℕ
-  pub clock : ℕ
-  pub story : Option Story
-
-abbrev pub seen : {D : Type 0} → (pages clock : D → ℕ) → (D → Option Story) → D → Seen
-seen pages clock story device = record { pages = pages device; clock = clock device; story = story device }
 
 -- the call that reads a page
 abbrev pub read_of : ℕ → Call
@@ -29,7 +20,7 @@ abbrev pub pages_of : List (ℕ × Bool) → List ℕ
 pages_of asked = map (λ x. x.0) asked
 
 -- these pages, each given or not, were asked for in turn, and nothing else was done
-pub record Asked (asked : List (ℕ × Bool)) (old new : Seen) : Type 0 where
+pub record Asked (asked : List (ℕ × Bool)) (old new : DeviceState) : Type 0 where
   pub same_pages : new.pages ≡ old.pages
   pub clock : new.clock ≡ old.clock + length (calls_of old.clock asked)
   pub told : new.story ≡ all_noted (calls_of old.clock asked) old.story

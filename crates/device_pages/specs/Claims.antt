@@ -1,13 +1,13 @@
 -- What asking for lent pages makes of a device.
 use Rattle.std.specs.Prelude.{◌≡◌, ◌↔◌, ℕ, ◌+◌, ◌*◌, Bool, true, List, length, map, Contains, Option, Some, None, IsTrue}
 use Rattle.space_map.specs.declared.space.Extent.{Extent}
-use Rattle.dev_model.specs.Story.{FailedWrite, Calls, Story, clock_of, after, IsInside, IsReadable, IsCalmAt}
+use Rattle.dev_model.specs.Story.{DeviceState, FailedWrite, Calls, Story, clock_of, after, IsInside, IsReadable, IsCalmAt}
 use Rattle.dev_model.specs.Doing.{noted}
 use Rattle.dev_model.specs.Moments.{ReadsWithin}
 use Rattle.dev_model.specs.Writes.{AreSpared}
 use Rattle.dev_model.specs.DeviceCalls.{ok_calls}
 use Rattle.device_pages.specs.declared.lending.TheConstants.{PAGE_BYTES}
-use Rattle.device_pages.specs.Asked.{Seen, Asked, pages_of}
+use Rattle.device_pages.specs.Asked.{Asked, pages_of}
 use Rattle.device_pages.specs.ReadsMade.{reads_made}
 use Rattle.device_pages.specs.Lending.{page_bytes, contents_of}
 use Rattle.device_pages.specs.Lent.{is_lent}
@@ -20,7 +20,7 @@ pub record MadeReads (asked : List (ℕ × Bool)) (s : Story) (now : Option Stor
   pub made : ok_calls (clock_of s) calls ≡ reads_made (clock_of s) asked
 
 abbrev pub ReadsAreMade : Type 0
-ReadsAreMade = (asked : List (ℕ × Bool)) (old new : Seen) (s : Story) → Asked asked old new → old.story ≡ Some s → old.clock ≡ clock_of s
+ReadsAreMade = (asked : List (ℕ × Bool)) (old new : DeviceState) (s : Story) → Asked asked old new → old.story ≡ Some s → old.clock ≡ clock_of s
     → MadeReads asked s new.story
 
 -- this range is a page that was asked for
@@ -31,11 +31,11 @@ pub record IsPageAsked (asked : List (ℕ × Bool)) (at count : ℕ) : Type 0 wh
   pub size : count ≡ PAGE_BYTES
 
 abbrev pub NothingElseIsDone : Type 0
-NothingElseIsDone = (asked : List (ℕ × Bool)) (old new : Seen) (s : Story) → Asked asked old new → old.story ≡ Some s
+NothingElseIsDone = (asked : List (ℕ × Bool)) (old new : DeviceState) (s : Story) → Asked asked old new → old.story ≡ Some s
     → ReadsWithin (IsPageAsked asked) s new.story
 
 abbrev pub ClockCounts : Type 0
-ClockCounts = (pages : List ℕ) (old new : Seen) → Asked (map (λ page. (page, true)) pages) old new → new.clock ≡ old.clock + length pages
+ClockCounts = (pages : List ℕ) (old new : DeviceState) → Asked (map (λ page. (page, true)) pages) old new → new.clock ≡ old.clock + length pages
 
 abbrev pub ReadablePagesAreTold : Type 0
 ReadablePagesAreTold = (extents : List Extent) (s : Story)
@@ -50,7 +50,7 @@ FailedWritesAreNotTold = (extents : List Extent) (s : Story) (at : ℕ) (new : L
     → contents_of extents (noted (FailedWrite at new) (Some s)) ≡ None
 
 abbrev pub ContentsStay : Type 0
-ContentsStay = (extents : List Extent) (asked : List (ℕ × Bool)) (old new : Seen) → Asked asked old new
+ContentsStay = (extents : List Extent) (asked : List (ℕ × Bool)) (old new : DeviceState) → Asked asked old new
     → contents_of extents new.story ≡ contents_of extents old.story
 
 -- what is told of lent pages after calls that spare them, page by page

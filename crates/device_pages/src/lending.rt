@@ -3,7 +3,7 @@ ghost use Rattle.std.specs.Prelude.{◌≡◌, ◌+◌, ◌*◌, ◌<◌, ◌≤
 ghost use Rattle.space_map.specs.Space.{end_of};
 ghost use Rattle.device_pages.specs.Lending.{contents_of};
 ghost use Rattle.device_pages.specs.Lent.{is_lent};
-ghost use Rattle.device_pages.specs.Asked.{Asked, seen};
+ghost use Rattle.device_pages.specs.Asked.{Asked};
 
 use dev_model::{Device, Failed, Pages};
 use space_map::Extent;
@@ -18,14 +18,14 @@ const PAGE_BYTES: u64 = 4096;
 pub struct DevicePages<'a, D: Device> {
     device: &'a mut D,
     extents: &'a [Extent],
-    ghost on_device: { All (λ e. end_of e ≤ D.pages device.now) extents.now },
-    ghost fits: { D.pages device.now < 2 ^ 32 },
+    ghost on_device: { All (λ e. end_of e ≤ (D.seen device.now).pages) extents.now },
+    ghost fits: { (D.seen device.now).pages < 2 ^ 32 },
 }
 
 impl<'a, D: Device> DevicePages<'a, D> {
     /// Lends the pages of extents that end on the device.
     pub fn new(device: &'a mut D, extents: &'a [Extent]) -> DevicePages<'a, D>
-        requires { All (λ e. end_of e ≤ D.pages device.old) extents.now }
+        requires { All (λ e. end_of e ≤ (D.seen device.old).pages) extents.now }
         ensures same_device { result.device.ghost_name ≡ device.entry.ghost_name }
         ensures untouched { result.device.now ≡ device.old }
         ensures extents { result.extents.now ≡ extents.now }
@@ -43,14 +43,14 @@ impl<D: Device> Pages for DevicePages<'_, D> {
 
     ghost lent = { λ pages page. is_lent pages.extents.now page };
 
-    ghost contents = { λ pages. contents_of pages.extents.now (D.story pages.device.now) };
+    ghost contents = { λ pages. contents_of pages.extents.now (D.seen pages.device.now).story };
 
     ghost asked = { λ old new reads.
         (new.device.ghost_name ≡ old.device.ghost_name)
         × (new.extents.now ≡ old.extents.now)
-        × Asked reads (seen D.pages D.clock D.story old.device.now) (seen D.pages D.clock D.story new.device.now) };
+        × Asked reads (D.seen old.device.now) (D.seen new.device.now) };
 
-    ghost fault_count = { λ pages. D.fault_count pages.device.now };
+    ghost fault_count = { λ pages. (D.seen pages.device.now).faults };
 
     fn faults(&self) -> u64 {
         self.device.faults()
@@ -60,14 +60,14 @@ impl<D: Device> Pages for DevicePages<'_, D> {
         self.device.read(u64::from(page) * PAGE_BYTES, buf)
     }
 
-    ghost lent_fits = { λ pages page h. lent_fits (D.pages pages.device.now) pages.extents.now page pages.on_device pages.fits h };
+    ghost lent_fits = { λ pages page h. lent_fits (D.seen pages.device.now).pages pages.extents.now page pages.on_device pages.fits h };
 
-    ghost asked_none = { λ pages. (refl, refl, asked-none (seen D.pages D.clock D.story pages.device.now)) };
+    ghost asked_none = { λ pages. (refl, refl, asked-none (D.seen pages.device.now)) };
 
     ghost asked_then = { λ first second third xs ys so_far more. (
       more.0 ∙ so_far.0,
       more.1 ∙ so_far.1,
-      asked-then (seen D.pages D.clock D.story first.device.now) (seen D.pages D.clock D.story second.device.now)
-          (seen D.pages D.clock D.story third.device.now) xs ys so_far.2 more.2,
+      asked-then (D.seen first.device.now) (D.seen second.device.now)
+          (D.seen third.device.now) xs ys so_far.2 more.2,
     ) };
 }

@@ -79,13 +79,7 @@ impl FileDevice {
 impl Device for FileDevice {
     ghost use Rattle.dev_model.specs.Laws.Plans.{no_story};
 
-    ghost pages = { λ d. d.pages };
-
-    ghost clock = { λ d. d.clock };
-
-    ghost fault_count = { λ d. d.faults };
-
-    ghost story = { λ _. None };
+    ghost seen = { λ d. record { pages = d.pages; clock = d.clock; faults = d.faults; story = None } };
 
     fn pages(&self) -> u32 {
         self.pages

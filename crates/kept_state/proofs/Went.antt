@@ -3,14 +3,14 @@ use Rattle.std.proofs.Common.{◌≡◌, ℕ, List, [], ◌∷◌, All, Option, 
 use Rattle.std.specs.Prelude.{IsTrue}
 use Rattle.std.proofs.lemmas.List.Elements.{All-nil}
 use Rattle.space_map.specs.declared.space.Extent.{Extent}
-use Rattle.dev_model.specs.Story.{Story, clock_of, WhereTold}
+use Rattle.dev_model.specs.Story.{DeviceState, Story, clock_of, WhereTold}
 use Rattle.dev_model.specs.DeviceCalls.{ok_calls}
 use Rattle.dev_model.specs.Laws.Reads.{LeavesOnly-reads}
 use Rattle.dev_model.specs.Moments.{ReadsWithin}
 use Rattle.dev_model.specs.declared.page_faults.PageFault.{PageFault}
 use Rattle.dev_model.specs.declared.page_faults.PageFault.TheVariants.{Failed, Damaged, OutOfMemory}
 use Rattle.dev_model.specs.Asked.{Went, reads_of, given_but_last}
-use Rattle.device_pages.specs.Asked.{Seen, Asked, seen, calls_of, pages_of}
+use Rattle.device_pages.specs.Asked.{Asked, calls_of, pages_of}
 use Rattle.device_pages.specs.Lent.{is_lent}
 use Rattle.device_pages.specs.Laws.Asked.{asked-none, story-asked, ok_calls-asked, pages_of-given, ReadsWithin-asked}
 use Rattle.store_state.specs.Lists.{Lists, extents_of}
@@ -31,7 +31,7 @@ pages_of-reads (Err OutOfMemory) pages = pages_of-given pages
 
 module _ (l : Lists) where
   -- with the calls that it made
-  has-read : {X : Type 0} (old new : Seen) (result : Result X PageFault) (pages : List ℕ) → ((s : Story) → old.story ≡ Some s → old.clock ≡ clock_of s)
+  has-read : {X : Type 0} (old new : DeviceState) (result : Result X PageFault) (pages : List ℕ) → ((s : Story) → old.story ≡ Some s → old.clock ≡ clock_of s)
       → Went (is_lent (extents_of l.components)) (λ reads. Asked reads old new) result pages → HasRead l old new result pages
   has-read old new result pages counted went = record {
     went = went;
@@ -43,7 +43,7 @@ module _ (l : Lists) where
   }
 
   -- what it leaves
-  pub only-read : {X : Type 0} (old new : Seen) (result : Result X PageFault) (pages : List ℕ) → IsLists l → HasRead l old new result pages → WhereTold old.story (λ s. IsOnlyRead old.pages l s new.story)
+  pub only-read : {X : Type 0} (old new : DeviceState) (result : Result X PageFault) (pages : List ℕ) → IsLists l → HasRead l old new result pages → WhereTold old.story (λ s. IsOnlyRead old.pages l s new.story)
   only-read old new result pages is read s told =
       let lent : All (λ page. IsTrue (is_lent (extents_of l.components) page)) (pages_of (reads_of result pages)) =
       subst (All (λ page. IsTrue (is_lent (extents_of l.components) page))) (sym (pages_of-reads result pages)) read.went.are_lent in
@@ -57,19 +57,19 @@ module _ (l : Lists) where
         any_moment = λ log table kept. images-reads (IsPageIn l) s new.story run old.pages log table kept.held.rests;
       }
 
-  module _ {D : Type 0} (pages clock : D → ℕ) (story : D → Option Story) (counted : (device : D) (s : Story) → story device ≡ Some s → clock device ≡ clock_of s) where
+  module _ {D : Type 0} (seen : D → DeviceState) (counted : (device : D) (s : Story) → (seen device).story ≡ Some s → (seen device).clock ≡ clock_of s) where
     -- no page was asked for
-    pub read-none : {X : Type 0} (device : D) (x : X) → HasRead l (seen pages clock story device) (seen pages clock story device) (Ok x) []
+    pub read-none : {X : Type 0} (device : D) (x : X) → HasRead l (seen device) (seen device) (Ok x) []
     read-none device x =
-        has-read (seen pages clock story device) (seen pages clock story device) (Ok x) [] (counted device)
-        (record { asked_for = asked-none (seen pages clock story device); are_lent = All-nil (λ page. IsTrue (is_lent (extents_of l.components) page)); stops = tt })
+        has-read (seen device) (seen device) (Ok x) [] (counted device)
+        (record { asked_for = asked-none (seen device); are_lent = All-nil (λ page. IsTrue (is_lent (extents_of l.components) page)); stops = tt })
 
     -- the pages of the components were lent meanwhile
     pub read-lent : {X : Type 0} (extents : List Extent) (old first next new : D) (result : Result X PageFault) (asked : List ℕ) → first ≡ old → extents ≡ extents_of l.components → next ≡ new
-        → Went (is_lent extents) (λ reads. Asked reads (seen pages clock story first) (seen pages clock story next)) result asked
-        → HasRead l (seen pages clock story old) (seen pages clock story new) result asked
+        → Went (is_lent extents) (λ reads. Asked reads (seen first) (seen next)) result asked
+        → HasRead l (seen old) (seen new) result asked
     read-lent extents old first next new result asked begins lends ends went =
-        has-read (seen pages clock story old) (seen pages clock story new) result asked (counted old)
-        (subst (λ (d : D). Went (is_lent (extents_of l.components)) (λ reads. Asked reads (seen pages clock story old) (seen pages clock story d)) result asked) ends
-        (subst (λ (d : D). Went (is_lent (extents_of l.components)) (λ reads. Asked reads (seen pages clock story d) (seen pages clock story next)) result asked) begins
-        (subst (λ (es : List Extent). Went (is_lent es) (λ reads. Asked reads (seen pages clock story first) (seen pages clock story next)) result asked) lends went)))
+        has-read (seen old) (seen new) result asked (counted old)
+        (subst (λ (d : D). Went (is_lent (extents_of l.components)) (λ reads. Asked reads (seen old) (seen d)) result asked) ends
+        (subst (λ (d : D). Went (is_lent (extents_of l.components)) (λ reads. Asked reads (seen d) (seen next)) result asked) begins
+        (subst (λ (es : List Extent). Went (is_lent es) (λ reads. Asked reads (seen first) (seen next)) result asked) lends went)))

@@ -40,12 +40,12 @@ pub fn write_job_page<D: Device>(
 ) -> Result<(), Failed>
     requires begun { (owner : ℕ) × IsJobOf state.old.0 owner job.old }
     requires left { 0 < steps_left job.old }
-    requires on_device { state.old.0.space.pages ≤ D.pages device.old }
+    requires on_device { state.old.0.space.pages ≤ (D.seen device.old).pages }
 
     ensures did { (bytes : List ℕ) × (length bytes ≡ PAGE_BYTES) × IsPageOf job.old.rows job.old.written bytes
-        × Did (Write ((job.old.plan.extent.first + job.old.written) * PAGE_BYTES) bytes ∷ []) (D.story device.old) (D.story device.new) result }
-    ensures ticks { Ticks 1 (D.clock device.old) (D.clock device.new) result }
-    ensures within { WhereTold (D.story device.old) (λ s. WritesWithin ((job.old.plan.extent.first + job.old.written) * PAGE_BYTES) PAGE_BYTES s (D.story device.new)) }
+        × Did (Write ((job.old.plan.extent.first + job.old.written) * PAGE_BYTES) bytes ∷ []) (D.seen device.old).story (D.seen device.new).story result }
+    ensures ticks { Ticks 1 (D.seen device.old).clock (D.seen device.new).clock result }
+    ensures within { WhereTold (D.seen device.old).story (λ s. WritesWithin ((job.old.plan.extent.first + job.old.written) * PAGE_BYTES) PAGE_BYTES s (D.seen device.new).story) }
 
     // After `Ok` the page is counted, and after a failure it isn't. The job is still the one that was begun.
     ensures lists { OnOk result (state.new.0 ≡ one_written state.old.0) }
@@ -58,14 +58,14 @@ pub fn write_job_page<D: Device>(
 
     // No component has the page. So each crash at each moment leaves the table, the store has it still after `Ok`, and where it
     // could be read it can be read in any case.
-    ensures any_moment { (log : LogModel) (table : Table) → WhereTold (D.story device.old) (λ s. IsKept (D.pages device.old) log table state.old.0 s →
-        LeavesOnly s (D.story device.new) (Recovers (D.pages device.old) table)) }
-    ensures kept { (log : LogModel) (table : Table) → OnOk result (WhereTold (D.story device.old) (λ s. IsKept (D.pages device.old) log table state.old.0 s →
-        WhereTold (D.story device.new) (IsKept (D.pages device.old) log table state.new.0))) }
-    ensures legible { (table : Table) (disk : List (List PrimRow)) → WhereTold (D.story device.old) (λ s. IsLegible table disk state.old.0 s → WhereTold (D.story device.new) (IsLegible table disk state.new.0)) }
+    ensures any_moment { (log : LogModel) (table : Table) → WhereTold (D.seen device.old).story (λ s. IsKept (D.seen device.old).pages log table state.old.0 s →
+        LeavesOnly s (D.seen device.new).story (Recovers (D.seen device.old).pages table)) }
+    ensures kept { (log : LogModel) (table : Table) → OnOk result (WhereTold (D.seen device.old).story (λ s. IsKept (D.seen device.old).pages log table state.old.0 s →
+        WhereTold (D.seen device.new).story (IsKept (D.seen device.old).pages log table state.new.0))) }
+    ensures legible { (table : Table) (disk : List (List PrimRow)) → WhereTold (D.seen device.old).story (λ s. IsLegible table disk state.old.0 s → WhereTold (D.seen device.new).story (IsLegible table disk state.new.0)) }
 
-    ensures same_pages { D.pages device.new ≡ D.pages device.old }
-    ensures cause { HasCause (D.fault_count device.old) (D.fault_count device.new) result }
+    ensures same_pages { (D.seen device.new).pages ≡ (D.seen device.old).pages }
+    ensures cause { HasCause (D.seen device.old).faults (D.seen device.new).faults result }
 {
     lists_have_rules(state);
     let JobStep::Write(page) = job.step() else {
@@ -90,11 +90,11 @@ pub fn install_job<D: Device>(
     requires begun { (owner : ℕ) × IsJobOf state.old.0 owner job.now }
     requires written { steps_left job.now ≡ 0 }
     requires below { state.old.0.cut < LSN_LIMIT }
-    requires on_device { state.old.0.space.pages ≤ D.pages device.old }
+    requires on_device { state.old.0.space.pages ≤ (D.seen device.old).pages }
 
-    ensures did { Did (install_calls job.now.plan.slot (described job.now)) (D.story device.old) (D.story device.new) result }
-    ensures ticks { Ticks 4 (D.clock device.old) (D.clock device.new) result }
-    ensures within { WhereTold (D.story device.old) (λ s. WritesWithin (slot_start job.now.plan.slot) SLOT_BYTES s (D.story device.new)) }
+    ensures did { Did (install_calls job.now.plan.slot (described job.now)) (D.seen device.old).story (D.seen device.new).story result }
+    ensures ticks { Ticks 4 (D.seen device.old).clock (D.seen device.new).clock result }
+    ensures within { WhereTold (D.seen device.old).story (λ s. WritesWithin (slot_start job.now.plan.slot) SLOT_BYTES s (D.seen device.new).story) }
 
     // After `Ok` the component stands in its slot and the frozen list waits no more; after a failure the lists are as before.
     ensures lists { OnOk result ((row : JobRow) → state.old.0.job ≡ Some row → state.new.0 ≡ installed row state.old.0) }
@@ -104,17 +104,17 @@ pub fn install_job<D: Device>(
 
     // Each crash at each moment leaves the table, with the component or without it, and after `Ok` the store has it still. After a
     // failure it can be read as before, and after `Ok` with the job's rows as the newest list on the disk.
-    ensures any_moment { (log : LogModel) (table : Table) → WhereTold (D.story device.old) (λ s. IsNumbered log state.old.0 → IsKept (D.pages device.old) log table state.old.0 s →
-        LeavesOnly s (D.story device.new) (Recovers (D.pages device.old) table)) }
-    ensures kept { (log : LogModel) (table : Table) → OnOk result (WhereTold (D.story device.old) (λ s. IsNumbered log state.old.0 → IsKept (D.pages device.old) log table state.old.0 s →
-        WhereTold (D.story device.new) (IsKept (D.pages device.old) log table state.new.0))) }
+    ensures any_moment { (log : LogModel) (table : Table) → WhereTold (D.seen device.old).story (λ s. IsNumbered log state.old.0 → IsKept (D.seen device.old).pages log table state.old.0 s →
+        LeavesOnly s (D.seen device.new).story (Recovers (D.seen device.old).pages table)) }
+    ensures kept { (log : LogModel) (table : Table) → OnOk result (WhereTold (D.seen device.old).story (λ s. IsNumbered log state.old.0 → IsKept (D.seen device.old).pages log table state.old.0 s →
+        WhereTold (D.seen device.new).story (IsKept (D.seen device.old).pages log table state.new.0))) }
     ensures numbered { (log : LogModel) → IsNumbered log state.old.0 → IsNumbered log state.new.0 }
-    ensures legible { (table : Table) (disk : List (List PrimRow)) → OnErr result (WhereTold (D.story device.old) (λ s. IsLegible table disk state.old.0 s → WhereTold (D.story device.new) (IsLegible table disk state.new.0))) }
-    ensures legible_installed { (log : LogModel) (table : Table) (disk : List (List PrimRow)) → OnOk result (WhereTold (D.story device.old) (λ s. IsKept (D.pages device.old) log table state.old.0 s → IsLegible table disk state.old.0 s →
-        WhereTold (D.story device.new) (IsLegible table (job.now.rows ∷ disk) state.new.0))) }
+    ensures legible { (table : Table) (disk : List (List PrimRow)) → OnErr result (WhereTold (D.seen device.old).story (λ s. IsLegible table disk state.old.0 s → WhereTold (D.seen device.new).story (IsLegible table disk state.new.0))) }
+    ensures legible_installed { (log : LogModel) (table : Table) (disk : List (List PrimRow)) → OnOk result (WhereTold (D.seen device.old).story (λ s. IsKept (D.seen device.old).pages log table state.old.0 s → IsLegible table disk state.old.0 s →
+        WhereTold (D.seen device.new).story (IsLegible table (job.now.rows ∷ disk) state.new.0))) }
 
-    ensures same_pages { D.pages device.new ≡ D.pages device.old }
-    ensures cause { HasCause (D.fault_count device.old) (D.fault_count device.new) result }
+    ensures same_pages { (D.seen device.new).pages ≡ (D.seen device.old).pages }
+    ensures cause { HasCause (D.seen device.old).faults (D.seen device.new).faults result }
 {
     lists_have_rules(state);
     jobs_have_rules(job);

@@ -31,28 +31,28 @@ pub(crate) fn install_component<D: Device>(
     slot: &Slot,
 ) -> Result<(), Failed>
     requires below { n < SLOTS }
-    requires pages { LOG_PAGES ≤ D.pages device.old }
+    requires pages { LOG_PAGES ≤ (D.seen device.old).pages }
 
-    ensures did { Did (install_calls n slot.now) (D.story device.old) (D.story device.new) result }
-    ensures ticks { Ticks 4 (D.clock device.old) (D.clock device.new) result }
-    ensures within { WhereTold (D.story device.old) (λ s. WritesWithin (slot_start n) SLOT_BYTES s (D.story device.new)) }
-    ensures same_segments { WhereTold (D.story device.old) (λ s. WhereTold (D.story device.new) (λ t. segments_of LOG_START (bytes_of t) ≡ segments_of LOG_START (bytes_of s))) }
+    ensures did { Did (install_calls n slot.now) (D.seen device.old).story (D.seen device.new).story result }
+    ensures ticks { Ticks 4 (D.seen device.old).clock (D.seen device.new).clock result }
+    ensures within { WhereTold (D.seen device.old).story (λ s. WritesWithin (slot_start n) SLOT_BYTES s (D.seen device.new).story) }
+    ensures same_segments { WhereTold (D.seen device.old).story (λ s. WhereTold (D.seen device.new).story (λ t. segments_of LOG_START (bytes_of t) ≡ segments_of LOG_START (bytes_of s))) }
 
     // Each crash at each moment leaves the table, with the component or without it; after `Ok` the store is at rest with it.
-    ensures any_moment { (log : Log) (table : Table) (frozen : List Record) (lists : List (List PrimRow)) → WhereTold (D.story device.old) (λ s.
-        Rests (D.pages device.old) log table s → MayStand (D.pages device.old) s n slot.now frozen lists → IsClosed n s → IsWritten slot.now s →
-        LeavesOnly s (D.story device.new) (Recovers (D.pages device.old) table)) }
-    ensures rests { (log : Log) (table : Table) (frozen : List Record) (lists : List (List PrimRow)) → OnOk result (WhereTold (D.story device.old) (λ s.
-        Rests (D.pages device.old) log table s → MayStand (D.pages device.old) s n slot.now frozen lists → IsClosed n s → IsWritten slot.now s →
-        WhereTold (D.story device.new) (Rests (D.pages device.old) log table))) }
-    ensures installed { OnOk result (WhereTold (D.story device.old) (λ s. DirectoryAtRest s → IsClosed n s → WhereTold (D.story device.new)
+    ensures any_moment { (log : Log) (table : Table) (frozen : List Record) (lists : List (List PrimRow)) → WhereTold (D.seen device.old).story (λ s.
+        Rests (D.seen device.old).pages log table s → MayStand (D.seen device.old).pages s n slot.now frozen lists → IsClosed n s → IsWritten slot.now s →
+        LeavesOnly s (D.seen device.new).story (Recovers (D.seen device.old).pages table)) }
+    ensures rests { (log : Log) (table : Table) (frozen : List Record) (lists : List (List PrimRow)) → OnOk result (WhereTold (D.seen device.old).story (λ s.
+        Rests (D.seen device.old).pages log table s → MayStand (D.seen device.old).pages s n slot.now frozen lists → IsClosed n s → IsWritten slot.now s →
+        WhereTold (D.seen device.new).story (Rests (D.seen device.old).pages log table))) }
+    ensures installed { OnOk result (WhereTold (D.seen device.old).story (λ s. DirectoryAtRest s → IsClosed n s → WhereTold (D.seen device.new).story
         (λ t. directory_of (bytes_of t) ≡ with_slot n slot.now (directory_of (bytes_of s))))) }
-    ensures placed { (log : Log) (table : Table) (frozen : List Record) (lists : List (List PrimRow)) → OnOk result (WhereTold (D.story device.old) (λ s.
-        Rests (D.pages device.old) log table s → MayStand (D.pages device.old) s n slot.now frozen lists → IsClosed n s → IsWritten slot.now s →
-        WhereTold (D.story device.new) (λ t. primary_of (bytes_of t) ≡ slot.now ∷ primary_of (bytes_of s)))) }
+    ensures placed { (log : Log) (table : Table) (frozen : List Record) (lists : List (List PrimRow)) → OnOk result (WhereTold (D.seen device.old).story (λ s.
+        Rests (D.seen device.old).pages log table s → MayStand (D.seen device.old).pages s n slot.now frozen lists → IsClosed n s → IsWritten slot.now s →
+        WhereTold (D.seen device.new).story (λ t. primary_of (bytes_of t) ≡ slot.now ∷ primary_of (bytes_of s)))) }
 
-    ensures same_pages { D.pages device.new ≡ D.pages device.old }
-    ensures cause { HasCause (D.fault_count device.old) (D.fault_count device.new) result }
+    ensures same_pages { (D.seen device.new).pages ≡ (D.seen device.old).pages }
+    ensures cause { HasCause (D.seen device.old).faults (D.seen device.new).faults result }
 {
     write_slot(device, n, slot)?;
     device.sync()?;

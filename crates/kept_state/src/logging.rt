@@ -37,25 +37,25 @@ pub(crate) fn append_record<D: Device>(
     requires next { logged.now.lsn ≡ log.old.next_lsn }
     requires below { logged.now.lsn < LSN_LIMIT }
     requires has_old { HasOld logged.now.op logged.now.old_point }
-    requires pages { LOG_PAGES ≤ D.pages device.old }
+    requires pages { LOG_PAGES ≤ (D.seen device.old).pages }
     requires counted { IsCounted log.old }
 
-    ensures did { Did (append_calls log.old logged.now) (D.story device.old) (D.story device.new) result }
-    ensures ticks { Ticks 4 (D.clock device.old) (D.clock device.new) result }
-    ensures ack { IfOk result (λ ack. ack ≡ D.clock device.new) }
-    ensures within { WhereTold (D.story device.old) (λ s. WritesWithin LOG_START LOG_BYTES s (D.story device.new)) }
-    ensures same_directory { WhereTold (D.story device.old) (λ s. WhereTold (D.story device.new) (λ t. directory_of (bytes_of t) ≡ directory_of (bytes_of s))) }
+    ensures did { Did (append_calls log.old logged.now) (D.seen device.old).story (D.seen device.new).story result }
+    ensures ticks { Ticks 4 (D.seen device.old).clock (D.seen device.new).clock result }
+    ensures ack { IfOk result (λ ack. ack ≡ (D.seen device.new).clock) }
+    ensures within { WhereTold (D.seen device.old).story (λ s. WritesWithin LOG_START LOG_BYTES s (D.seen device.new).story) }
+    ensures same_directory { WhereTold (D.seen device.old).story (λ s. WhereTold (D.seen device.new).story (λ t. directory_of (bytes_of t) ≡ directory_of (bytes_of s))) }
 
     // Each crash at each moment leaves the table before the write, or the one behind it; after `Ok` the store is at rest with it.
     // The record has to say truly at which point its key stood.
-    ensures any_moment { (table : Table) → WhereTold (D.story device.old) (λ s. Rests (D.pages device.old) log.old table s → end_of (primary_of (bytes_of s)) < logged.now.lsn → SaysOld table logged.now →
-        LeavesOnly s (D.story device.new) (RecoversEither (D.pages device.old) table (after_write table (write_of logged.now.op)))) }
-    ensures rests { (table : Table) → OnOk result (WhereTold (D.story device.old) (λ s. Rests (D.pages device.old) log.old table s → end_of (primary_of (bytes_of s)) < logged.now.lsn → SaysOld table logged.now →
-        WhereTold (D.story device.new) (Rests (D.pages device.old) log.new (after_write table (write_of logged.now.op))))) }
+    ensures any_moment { (table : Table) → WhereTold (D.seen device.old).story (λ s. Rests (D.seen device.old).pages log.old table s → end_of (primary_of (bytes_of s)) < logged.now.lsn → SaysOld table logged.now →
+        LeavesOnly s (D.seen device.new).story (RecoversEither (D.seen device.old).pages table (after_write table (write_of logged.now.op)))) }
+    ensures rests { (table : Table) → OnOk result (WhereTold (D.seen device.old).story (λ s. Rests (D.seen device.old).pages log.old table s → end_of (primary_of (bytes_of s)) < logged.now.lsn → SaysOld table logged.now →
+        WhereTold (D.seen device.new).story (Rests (D.seen device.old).pages log.new (after_write table (write_of logged.now.op))))) }
 
     // After `Ok` the log has the record behind those that no component holds.
-    ensures later_records { (table : Table) → OnOk result (WhereTold (D.story device.old) (λ s. Rests (D.pages device.old) log.old table s → end_of (primary_of (bytes_of s)) < logged.now.lsn →
-        WhereTold (D.story device.new) (λ t. later (end_of (primary_of (bytes_of t))) (records_of (segments_of LOG_START (bytes_of t)))
+    ensures later_records { (table : Table) → OnOk result (WhereTold (D.seen device.old).story (λ s. Rests (D.seen device.old).pages log.old table s → end_of (primary_of (bytes_of s)) < logged.now.lsn →
+        WhereTold (D.seen device.new).story (λ t. later (end_of (primary_of (bytes_of t))) (records_of (segments_of LOG_START (bytes_of t)))
         ≡ later (end_of (primary_of (bytes_of s))) (records_of (segments_of LOG_START (bytes_of s))) ++ logged.now ∷ []))) }
 
     ensures width { length (record_bytes logged.now) ≡ 95 }
@@ -66,8 +66,8 @@ pub(crate) fn append_record<D: Device>(
     ensures records { OnOk result (log.new.records ≡ log.old.records + 1) }
     ensures next_lsn { OnOk result (log.new.next_lsn ≡ log.old.next_lsn + 1) }
     ensures unchanged { OnErr result (log.new ≡ log.old) }
-    ensures same_pages { D.pages device.new ≡ D.pages device.old }
-    ensures cause { HasCause (D.fault_count device.old) (D.fault_count device.new) result }
+    ensures same_pages { (D.seen device.new).pages ≡ (D.seen device.old).pages }
+    ensures cause { HasCause (D.seen device.old).faults (D.seen device.new).faults result }
 {
     let ack = log.append(device, logged)?;
     Ok(ack)
@@ -78,23 +78,23 @@ pub(crate) fn append_record<D: Device>(
 pub(crate) fn change_segments<D: Device>(device: &mut D, log: &mut Log) -> Result<(), Failed>
     requires start { log.old.start ≡ LOG_START }
     requires some { 1 ≤ log.old.records }
-    requires pages { LOG_PAGES ≤ D.pages device.old }
+    requires pages { LOG_PAGES ≤ (D.seen device.old).pages }
     requires counted { IsCounted log.old }
 
-    ensures did { Did (turn_calls log.old) (D.story device.old) (D.story device.new) result }
-    ensures ticks { Ticks (close_count (get_or log.old.open_headers (following log.old) false) + 4) (D.clock device.old) (D.clock device.new) result }
-    ensures within { WhereTold (D.story device.old) (λ s. WritesWithin LOG_START LOG_BYTES s (D.story device.new)) }
-    ensures same_directory { WhereTold (D.story device.old) (λ s. WhereTold (D.story device.new) (λ t. directory_of (bytes_of t) ≡ directory_of (bytes_of s))) }
+    ensures did { Did (turn_calls log.old) (D.seen device.old).story (D.seen device.new).story result }
+    ensures ticks { Ticks (close_count (get_or log.old.open_headers (following log.old) false) + 4) (D.seen device.old).clock (D.seen device.new).clock result }
+    ensures within { WhereTold (D.seen device.old).story (λ s. WritesWithin LOG_START LOG_BYTES s (D.seen device.new).story) }
+    ensures same_directory { WhereTold (D.seen device.old).story (λ s. WhereTold (D.seen device.new).story (λ t. directory_of (bytes_of t) ≡ directory_of (bytes_of s))) }
 
     // Each crash at each moment leaves the table; after `Ok` the store is at rest with the new segment.
-    ensures any_moment { (table : Table) → WhereTold (D.story device.old) (λ s. Rests (D.pages device.old) log.old table s → end_of (primary_of (bytes_of s)) + 1 + log.old.records ≡ log.old.next_lsn →
-        LeavesOnly s (D.story device.new) (Recovers (D.pages device.old) table)) }
-    ensures rests { (table : Table) → OnOk result (WhereTold (D.story device.old) (λ s. Rests (D.pages device.old) log.old table s → end_of (primary_of (bytes_of s)) + 1 + log.old.records ≡ log.old.next_lsn →
-        WhereTold (D.story device.new) (Rests (D.pages device.old) log.new table))) }
+    ensures any_moment { (table : Table) → WhereTold (D.seen device.old).story (λ s. Rests (D.seen device.old).pages log.old table s → end_of (primary_of (bytes_of s)) + 1 + log.old.records ≡ log.old.next_lsn →
+        LeavesOnly s (D.seen device.new).story (Recovers (D.seen device.old).pages table)) }
+    ensures rests { (table : Table) → OnOk result (WhereTold (D.seen device.old).story (λ s. Rests (D.seen device.old).pages log.old table s → end_of (primary_of (bytes_of s)) + 1 + log.old.records ≡ log.old.next_lsn →
+        WhereTold (D.seen device.new).story (Rests (D.seen device.old).pages log.new table))) }
 
     // After `Ok` the log has the same records that no component holds.
-    ensures later_records { (table : Table) → OnOk result (WhereTold (D.story device.old) (λ s. Rests (D.pages device.old) log.old table s → end_of (primary_of (bytes_of s)) + 1 + log.old.records ≡ log.old.next_lsn →
-        WhereTold (D.story device.new) (λ t. later (end_of (primary_of (bytes_of t))) (records_of (segments_of LOG_START (bytes_of t)))
+    ensures later_records { (table : Table) → OnOk result (WhereTold (D.seen device.old).story (λ s. Rests (D.seen device.old).pages log.old table s → end_of (primary_of (bytes_of s)) + 1 + log.old.records ≡ log.old.next_lsn →
+        WhereTold (D.seen device.new).story (λ t. later (end_of (primary_of (bytes_of t))) (records_of (segments_of LOG_START (bytes_of t)))
         ≡ later (end_of (primary_of (bytes_of s))) (records_of (segments_of LOG_START (bytes_of s)))))) }
 
     ensures counted { OnOk result (IsCounted log.new) }
@@ -104,8 +104,8 @@ pub(crate) fn change_segments<D: Device>(device: &mut D, log: &mut Log) -> Resul
     ensures records { OnOk result (log.new.records ≡ 0) }
     ensures next_lsn { log.new.next_lsn ≡ log.old.next_lsn }
     ensures unchanged { OnErr result (log.new ≡ log.old) }
-    ensures same_pages { D.pages device.new ≡ D.pages device.old }
-    ensures cause { HasCause (D.fault_count device.old) (D.fault_count device.new) result }
+    ensures same_pages { (D.seen device.new).pages ≡ (D.seen device.old).pages }
+    ensures cause { HasCause (D.seen device.old).faults (D.seen device.new).faults result }
 {
     log.next_segment(device)?;
     Ok(())

@@ -26,22 +26,22 @@ pub(crate) fn write_page<D: Device>(
     bytes: &[u8; PAGE_BYTES],
 ) -> Result<(), Failed>
     requires behind { FIRST_DATA_PAGE ≤ page }
-    requires on_device { page < D.pages device.old }
+    requires on_device { page < (D.seen device.old).pages }
 
-    ensures did { Did (Write (page * PAGE_BYTES) bytes.now ∷ []) (D.story device.old) (D.story device.new) result }
-    ensures ticks { Ticks 1 (D.clock device.old) (D.clock device.new) result }
-    ensures within { WhereTold (D.story device.old) (λ s. WritesWithin (page * PAGE_BYTES) PAGE_BYTES s (D.story device.new)) }
-    ensures same_directory { WhereTold (D.story device.old) (λ s. WhereTold (D.story device.new) (λ t. directory_of (bytes_of t) ≡ directory_of (bytes_of s))) }
-    ensures same_segments { WhereTold (D.story device.old) (λ s. WhereTold (D.story device.new) (λ t. segments_of LOG_START (bytes_of t) ≡ segments_of LOG_START (bytes_of s))) }
+    ensures did { Did (Write (page * PAGE_BYTES) bytes.now ∷ []) (D.seen device.old).story (D.seen device.new).story result }
+    ensures ticks { Ticks 1 (D.seen device.old).clock (D.seen device.new).clock result }
+    ensures within { WhereTold (D.seen device.old).story (λ s. WritesWithin (page * PAGE_BYTES) PAGE_BYTES s (D.seen device.new).story) }
+    ensures same_directory { WhereTold (D.seen device.old).story (λ s. WhereTold (D.seen device.new).story (λ t. directory_of (bytes_of t) ≡ directory_of (bytes_of s))) }
+    ensures same_segments { WhereTold (D.seen device.old).story (λ s. WhereTold (D.seen device.new).story (λ t. segments_of LOG_START (bytes_of t) ≡ segments_of LOG_START (bytes_of s))) }
 
-    ensures any_moment { (log : Log) (table : Table) → WhereTold (D.story device.old) (λ s. Rests (D.pages device.old) log table s → IsFree page (bytes_of s) →
-        LeavesOnly s (D.story device.new) (Recovers (D.pages device.old) table)) }
-    ensures rests { (log : Log) (table : Table) → WhereTold (D.story device.old) (λ s. Rests (D.pages device.old) log table s → IsFree page (bytes_of s) →
-        WhereTold (D.story device.new) (Rests (D.pages device.old) log table)) }
-    ensures written { OnOk result (WhereTold (D.story device.old) (λ _. WhereTold (D.story device.new) (λ t. HasPage page bytes.now t))) }
+    ensures any_moment { (log : Log) (table : Table) → WhereTold (D.seen device.old).story (λ s. Rests (D.seen device.old).pages log table s → IsFree page (bytes_of s) →
+        LeavesOnly s (D.seen device.new).story (Recovers (D.seen device.old).pages table)) }
+    ensures rests { (log : Log) (table : Table) → WhereTold (D.seen device.old).story (λ s. Rests (D.seen device.old).pages log table s → IsFree page (bytes_of s) →
+        WhereTold (D.seen device.new).story (Rests (D.seen device.old).pages log table)) }
+    ensures written { OnOk result (WhereTold (D.seen device.old).story (λ _. WhereTold (D.seen device.new).story (λ t. HasPage page bytes.now t))) }
 
-    ensures same_pages { D.pages device.new ≡ D.pages device.old }
-    ensures cause { HasCause (D.fault_count device.old) (D.fault_count device.new) result }
+    ensures same_pages { (D.seen device.new).pages ≡ (D.seen device.old).pages }
+    ensures cause { HasCause (D.seen device.old).faults (D.seen device.new).faults result }
 {
     device.write(u64::from(page) * PAGE_BYTES as u64, bytes)
 }

@@ -5,7 +5,7 @@ ghost use Rattle.dev_model.specs.Counts.{Rose};
 ghost use Rattle.dev_model.specs.Story.{WhereTold};
 ghost use Rattle.dev_model.specs.declared.page_faults.PageFault.TheVariants.{Failed, Damaged, OutOfMemory};
 ghost use Rattle.dev_model.specs.Asked.{GoesBy};
-ghost use Rattle.device_pages.specs.Asked.{seen};
+ghost use Rattle.device_pages.specs.Asked.{};
 ghost use Rattle.device_pages.specs.Lending.{contents_of};
 ghost use Rattle.order_merge.specs.Entries.{newest_at};
 ghost use Rattle.order_merge.specs.Ascending.{Ascends};
@@ -39,19 +39,19 @@ fn find_row<D: Device>(
     state: &State,
     key: u64,
 ) -> Result<Option<PrimRow>, PageFault>
-    requires on_device { state.now.0.space.pages ≤ D.pages device.old }
+    requires on_device { state.now.0.space.pages ≤ (D.seen device.old).pages }
     ensures lists { IsLists state.now.0 }
-    ensures later { D.fault_count device.old ≤ D.fault_count device.new }
-    ensures failed { IfErr result (λ fault. fault ≡ Failed → Rose (D.fault_count device.old) (D.fault_count device.new)) }
+    ensures later { (D.seen device.old).faults ≤ (D.seen device.new).faults }
+    ensures failed { IfErr result (λ fault. fault ≡ Failed → Rose (D.seen device.old).faults (D.seen device.new).faults) }
     ensures needs_no_memory { IfErr result (λ fault. fault ≢ OutOfMemory) }
-    ensures damaged { WhereTold (contents_of (extents_of state.now.0.components) (D.story device.old)) (λ contents.
+    ensures damaged { WhereTold (contents_of (extents_of state.now.0.components) (D.seen device.old).story) (λ contents.
         IfErr result (λ fault. (page : ℕ) → fault ≡ Damaged page → IsDamagedIn (trees_of state.now.0.components) contents page)) }
-    ensures found { (disk : List (List PrimRowModel)) → AreShown (contents_of (extents_of state.now.0.components) (D.story device.old)) (trees_of state.now.0.components) disk
+    ensures found { (disk : List (List PrimRowModel)) → AreShown (contents_of (extents_of state.now.0.components) (D.seen device.old).story) (trees_of state.now.0.components) disk
         → MatchResult result (λ found. found ≡ newest_at prim_reading (lists_of state.now.0.active state.now.0.frozen disk) key) (λ fault. fault ≡ Failed) }
     ensures memory { IfSome (in_memory state.now.0.active state.now.0.frozen key) (λ row. (result ≡ Ok (Some row)) × (device.new ≡ device.old)) }
-    ensures asked { (pages : List ℕ) × HasRead state.now.0 (seen D.pages D.clock D.story device.old) (seen D.pages D.clock D.story device.new) result pages
-        × OnOk result (WhereTold (contents_of (extents_of state.now.0.components) (D.story device.old)) (λ contents. All (IsTestedIn (trees_of state.now.0.components) contents) pages))
-        × ((disk : List (List PrimRowModel)) (roots : List ℕ) → AreShown (contents_of (extents_of state.now.0.components) (D.story device.old)) (trees_of state.now.0.components) disk
+    ensures asked { (pages : List ℕ) × HasRead state.now.0 (D.seen device.old) (D.seen device.new) result pages
+        × OnOk result (WhereTold (contents_of (extents_of state.now.0.components) (D.seen device.old).story) (λ contents. All (IsTestedIn (trees_of state.now.0.components) contents) pages))
+        × ((disk : List (List PrimRowModel)) (roots : List ℕ) → AreShown (contents_of (extents_of state.now.0.components) (D.seen device.old).story) (trees_of state.now.0.components) disk
         → AreRoots (trees_of state.now.0.components) roots
         → GoesBy result pages (view_pages key state.now.0.active state.now.0.frozen (trees_of state.now.0.components) disk roots)) }
 {
@@ -84,26 +84,26 @@ pub fn read_row<D: Device>(
     state: &State,
     key: u64,
 ) -> Result<Option<Row>, PageFault>
-    requires on_device { state.now.0.space.pages ≤ D.pages device.old }
+    requires on_device { state.now.0.space.pages ≤ (D.seen device.old).pages }
 
-    ensures row { (table : Table) (disk : List (List PrimRowModel)) → WhereTold (D.story device.old) (λ s. IsLegible table disk state.now.0 s
+    ensures row { (table : Table) (disk : List (List PrimRowModel)) → WhereTold (D.seen device.old).story (λ s. IsLegible table disk state.now.0 s
         → MatchResult result (λ row. row ≡ table_row table key) (λ fault. fault ≡ Failed)) }
     ensures memory { IfSome (in_memory state.now.0.active state.now.0.frozen key) (λ row. (result ≡ Ok (record_in row)) × (device.new ≡ device.old)) }
-    ensures failed { IfErr result (λ fault. fault ≡ Failed → Rose (D.fault_count device.old) (D.fault_count device.new)) }
-    ensures later { D.fault_count device.old ≤ D.fault_count device.new }
+    ensures failed { IfErr result (λ fault. fault ≡ Failed → Rose (D.seen device.old).faults (D.seen device.new).faults) }
+    ensures later { (D.seen device.old).faults ≤ (D.seen device.new).faults }
     ensures needs_no_memory { IfErr result (λ fault. fault ≢ OutOfMemory) }
-    ensures damaged { WhereTold (contents_of (extents_of state.now.0.components) (D.story device.old)) (λ contents.
+    ensures damaged { WhereTold (contents_of (extents_of state.now.0.components) (D.seen device.old).story) (λ contents.
         IfErr result (λ fault. (page : ℕ) → fault ≡ Damaged page → IsDamagedIn (trees_of state.now.0.components) contents page)) }
 
     // Which pages were asked for, that each that was given was tested for its place, and which they are where the pages show lists.
-    ensures asked { (pages : List ℕ) × HasRead state.now.0 (seen D.pages D.clock D.story device.old) (seen D.pages D.clock D.story device.new) result pages
-        × OnOk result (WhereTold (contents_of (extents_of state.now.0.components) (D.story device.old)) (λ contents. All (IsTestedIn (trees_of state.now.0.components) contents) pages))
-        × ((disk : List (List PrimRowModel)) (roots : List ℕ) → AreShown (contents_of (extents_of state.now.0.components) (D.story device.old)) (trees_of state.now.0.components) disk
+    ensures asked { (pages : List ℕ) × HasRead state.now.0 (D.seen device.old) (D.seen device.new) result pages
+        × OnOk result (WhereTold (contents_of (extents_of state.now.0.components) (D.seen device.old).story) (λ contents. All (IsTestedIn (trees_of state.now.0.components) contents) pages))
+        × ((disk : List (List PrimRowModel)) (roots : List ℕ) → AreShown (contents_of (extents_of state.now.0.components) (D.seen device.old).story) (trees_of state.now.0.components) disk
         → AreRoots (trees_of state.now.0.components) roots
         → GoesBy result pages (view_pages key state.now.0.active state.now.0.frozen (trees_of state.now.0.components) disk roots)) }
 
-    ensures stays { WhereTold (D.story device.old) (λ s. IsOnlyRead (D.pages device.old) state.now.0 s (D.story device.new)) }
-    ensures same_pages { D.pages device.new ≡ D.pages device.old }
+    ensures stays { WhereTold (D.seen device.old).story (λ s. IsOnlyRead (D.seen device.old).pages state.now.0 s (D.seen device.new).story) }
+    ensures same_pages { (D.seen device.new).pages ≡ (D.seen device.old).pages }
 {
     match find_row(device, state, key) {
         Ok(found) => Ok(record_of(found)),
@@ -121,25 +121,25 @@ pub fn read_rows<D: Device>(
     device: &mut D,
     state: &State,
 ) -> Result<Vec<PrimRow>, PageFault>
-    requires on_device { state.now.0.space.pages ≤ D.pages device.old }
+    requires on_device { state.now.0.space.pages ≤ (D.seen device.old).pages }
 
-    ensures rows { (table : Table) (disk : List (List PrimRowModel)) → WhereTold (D.story device.old) (λ s. IsLegible table disk state.now.0 s
+    ensures rows { (table : Table) (disk : List (List PrimRowModel)) → WhereTold (D.seen device.old).story (λ s. IsLegible table disk state.now.0 s
         → MatchResult result (λ rows. rows.items ≡ table_rows table) (λ fault. (fault ≡ Failed) ⊎ (fault ≡ OutOfMemory))) }
     ensures ascends { IfOk result (λ rows. Ascends prim_reading rows.items) }
-    ensures failed { IfErr result (λ fault. fault ≡ Failed → Rose (D.fault_count device.old) (D.fault_count device.new)) }
-    ensures later { D.fault_count device.old ≤ D.fault_count device.new }
-    ensures damaged { WhereTold (contents_of (extents_of state.now.0.components) (D.story device.old)) (λ contents.
+    ensures failed { IfErr result (λ fault. fault ≡ Failed → Rose (D.seen device.old).faults (D.seen device.new).faults) }
+    ensures later { (D.seen device.old).faults ≤ (D.seen device.new).faults }
+    ensures damaged { WhereTold (contents_of (extents_of state.now.0.components) (D.seen device.old).story) (λ contents.
         IfErr result (λ fault. (page : ℕ) → fault ≡ Damaged page → IsDamagedIn (trees_of state.now.0.components) contents page)) }
 
     // Which pages were asked for, that each that was given was tested for its place, and which they are where the pages show lists.
-    ensures asked { (pages : List ℕ) × HasRead state.now.0 (seen D.pages D.clock D.story device.old) (seen D.pages D.clock D.story device.new) result pages
-        × OnOk result (WhereTold (contents_of (extents_of state.now.0.components) (D.story device.old)) (λ contents. All (IsTestedIn (trees_of state.now.0.components) contents) pages))
-        × ((disk : List (List PrimRowModel)) (roots : List ℕ) → AreShown (contents_of (extents_of state.now.0.components) (D.story device.old)) (trees_of state.now.0.components) disk
+    ensures asked { (pages : List ℕ) × HasRead state.now.0 (D.seen device.old) (D.seen device.new) result pages
+        × OnOk result (WhereTold (contents_of (extents_of state.now.0.components) (D.seen device.old).story) (λ contents. All (IsTestedIn (trees_of state.now.0.components) contents) pages))
+        × ((disk : List (List PrimRowModel)) (roots : List ℕ) → AreShown (contents_of (extents_of state.now.0.components) (D.seen device.old).story) (trees_of state.now.0.components) disk
         → AreRoots (trees_of state.now.0.components) roots
         → GoesBy result pages (all_pages (trees_of state.now.0.components) roots)) }
 
-    ensures stays { WhereTold (D.story device.old) (λ s. IsOnlyRead (D.pages device.old) state.now.0 s (D.story device.new)) }
-    ensures same_pages { D.pages device.new ≡ D.pages device.old }
+    ensures stays { WhereTold (D.seen device.old).story (λ s. IsOnlyRead (D.seen device.old).pages state.now.0 s (D.seen device.new).story) }
+    ensures same_pages { (D.seen device.new).pages ≡ (D.seen device.old).pages }
 {
     let components = state.components();
     let Ok(active) = state.share() else {

@@ -45,14 +45,14 @@ pub fn log_write<D: Device>(
     requires room_in_memory { 1 ≤ state.old.1 }
     requires below { log.old.next_lsn < LSN_LIMIT }
     requires has_old { HasOld op.now old_point }
-    requires pages { LOG_PAGES ≤ D.pages device.old }
+    requires pages { LOG_PAGES ≤ (D.seen device.old).pages }
     requires numbered { IsNumbered log.old state.old.0 }
     requires counted { IsCounted log.old }
 
-    ensures did { Did (append_calls log.old (next_record log.old op.now old_point)) (D.story device.old) (D.story device.new) result }
-    ensures ticks { Ticks 4 (D.clock device.old) (D.clock device.new) result }
-    ensures ack { IfOk result (λ ack. ack ≡ D.clock device.new) }
-    ensures within { WhereTold (D.story device.old) (λ s. WritesWithin LOG_START LOG_BYTES s (D.story device.new)) }
+    ensures did { Did (append_calls log.old (next_record log.old op.now old_point)) (D.seen device.old).story (D.seen device.new).story result }
+    ensures ticks { Ticks 4 (D.seen device.old).clock (D.seen device.new).clock result }
+    ensures ack { IfOk result (λ ack. ack ≡ (D.seen device.new).clock) }
+    ensures within { WhereTold (D.seen device.old).story (λ s. WritesWithin LOG_START LOG_BYTES s (D.seen device.new).story) }
 
     // After `Ok` the lists have the row of the write, and after a failure they are as before.
     ensures lists { OnOk result (state.new.0 ≡ added (written_row (write_of op.now)) (is_some old_point) state.old.0) }
@@ -67,16 +67,16 @@ pub fn log_write<D: Device>(
 
     // Where the record says truly at which point its key stood: each crash at each moment leaves the table before the write, or the
     // one behind it, and after `Ok` the store has that one.
-    ensures any_moment { (table : Table) → WhereTold (D.story device.old) (λ s. IsKept (D.pages device.old) log.old table state.old.0 s → SaysOld table (next_record log.old op.now old_point) →
-        LeavesOnly s (D.story device.new) (RecoversEither (D.pages device.old) table (after_write table (write_of op.now)))) }
-    ensures kept { (table : Table) → OnOk result (WhereTold (D.story device.old) (λ s. IsKept (D.pages device.old) log.old table state.old.0 s → SaysOld table (next_record log.old op.now old_point) →
-        WhereTold (D.story device.new) (IsKept (D.pages device.old) log.new (after_write table (write_of op.now)) state.new.0))) }
+    ensures any_moment { (table : Table) → WhereTold (D.seen device.old).story (λ s. IsKept (D.seen device.old).pages log.old table state.old.0 s → SaysOld table (next_record log.old op.now old_point) →
+        LeavesOnly s (D.seen device.new).story (RecoversEither (D.seen device.old).pages table (after_write table (write_of op.now)))) }
+    ensures kept { (table : Table) → OnOk result (WhereTold (D.seen device.old).story (λ s. IsKept (D.seen device.old).pages log.old table state.old.0 s → SaysOld table (next_record log.old op.now old_point) →
+        WhereTold (D.seen device.new).story (IsKept (D.seen device.old).pages log.new (after_write table (write_of op.now)) state.new.0))) }
 
     // By the lists of before, readers find the table of before, also after a failure.
-    ensures legible { (table : Table) (disk : List (List PrimRow)) → WhereTold (D.story device.old) (λ s. IsLegible table disk state.old.0 s → WhereTold (D.story device.new) (IsLegible table disk state.old.0)) }
+    ensures legible { (table : Table) (disk : List (List PrimRow)) → WhereTold (D.seen device.old).story (λ s. IsLegible table disk state.old.0 s → WhereTold (D.seen device.new).story (IsLegible table disk state.old.0)) }
 
-    ensures same_pages { D.pages device.new ≡ D.pages device.old }
-    ensures cause { HasCause (D.fault_count device.old) (D.fault_count device.new) result }
+    ensures same_pages { (D.seen device.new).pages ≡ (D.seen device.old).pages }
+    ensures cause { HasCause (D.seen device.old).faults (D.seen device.new).faults result }
 {
     lists_have_rules(state);
     let logged = Record {
@@ -105,13 +105,13 @@ fn row_of(op: &LogOp) -> (u64, Option<(Point, Note)>)
 pub fn freeze<D: Device>(device: &mut D, log: &mut Log, state: &mut State) -> Result<(), Failed>
     requires none_frozen { state.old.0.frozen ≡ None }
     requires some { 1 ≤ log.old.records }
-    requires pages { LOG_PAGES ≤ D.pages device.old }
+    requires pages { LOG_PAGES ≤ (D.seen device.old).pages }
     requires numbered { IsNumbered log.old state.old.0 }
     requires counted { IsCounted log.old }
 
-    ensures did { Did (turn_calls log.old) (D.story device.old) (D.story device.new) result }
-    ensures ticks { Ticks (close_count (get_or log.old.open_headers (following log.old) false) + 4) (D.clock device.old) (D.clock device.new) result }
-    ensures within { WhereTold (D.story device.old) (λ s. WritesWithin LOG_START LOG_BYTES s (D.story device.new)) }
+    ensures did { Did (turn_calls log.old) (D.seen device.old).story (D.seen device.new).story result }
+    ensures ticks { Ticks (close_count (get_or log.old.open_headers (following log.old) false) + 4) (D.seen device.old).clock (D.seen device.new).clock result }
+    ensures within { WhereTold (D.seen device.old).story (λ s. WritesWithin LOG_START LOG_BYTES s (D.seen device.new).story) }
 
     // After `Ok` the active list waits, up to the log's last record, and after a failure the lists are as before.
     ensures lists { OnOk result (state.new.0 ≡ frozen_at (log.old.next_lsn - 1) state.old.0) }
@@ -123,14 +123,14 @@ pub fn freeze<D: Device>(device: &mut D, log: &mut Log, state: &mut State) -> Re
     ensures sound { IsLists state.new.0 }
 
     // Each crash at each moment leaves the table, and after `Ok` the store has it still. In any case it can be read as before.
-    ensures any_moment { (table : Table) → WhereTold (D.story device.old) (λ s. IsKept (D.pages device.old) log.old table state.old.0 s →
-        LeavesOnly s (D.story device.new) (Recovers (D.pages device.old) table)) }
-    ensures kept { (table : Table) → OnOk result (WhereTold (D.story device.old) (λ s. IsKept (D.pages device.old) log.old table state.old.0 s →
-        WhereTold (D.story device.new) (IsKept (D.pages device.old) log.new table state.new.0))) }
-    ensures legible { (table : Table) (disk : List (List PrimRow)) → WhereTold (D.story device.old) (λ s. IsLegible table disk state.old.0 s → WhereTold (D.story device.new) (IsLegible table disk state.new.0)) }
+    ensures any_moment { (table : Table) → WhereTold (D.seen device.old).story (λ s. IsKept (D.seen device.old).pages log.old table state.old.0 s →
+        LeavesOnly s (D.seen device.new).story (Recovers (D.seen device.old).pages table)) }
+    ensures kept { (table : Table) → OnOk result (WhereTold (D.seen device.old).story (λ s. IsKept (D.seen device.old).pages log.old table state.old.0 s →
+        WhereTold (D.seen device.new).story (IsKept (D.seen device.old).pages log.new table state.new.0))) }
+    ensures legible { (table : Table) (disk : List (List PrimRow)) → WhereTold (D.seen device.old).story (λ s. IsLegible table disk state.old.0 s → WhereTold (D.seen device.new).story (IsLegible table disk state.new.0)) }
 
-    ensures same_pages { D.pages device.new ≡ D.pages device.old }
-    ensures cause { HasCause (D.fault_count device.old) (D.fault_count device.new) result }
+    ensures same_pages { (D.seen device.new).pages ≡ (D.seen device.old).pages }
+    ensures cause { HasCause (D.seen device.old).faults (D.seen device.new).faults result }
 {
     lists_have_rules(state);
     let last = log.next_lsn - 1;

@@ -3,7 +3,7 @@ use Rattle.std.proofs.Common.{◌≡◌, inl, inr, ℕ, ◌≤◌, List, [], ◌
 use Rattle.std.proofs.lemmas.List.{length-replicate}
 use Rattle.std.specs.Ordering.{nat_cmp, MatchOrdering}
 use Rattle.std.specs.declared.cmp.Ordering.TheVariants.{Less, Equal, Greater}
-use Rattle.dev_model.specs.Story.{Past, Bytes, Call, Read, Write, Sync, FailedWrite, FailedCall, Past, Story, bytes_after, IsOutside, IsSettled, IsSpared, IsImageAt, IsImageNow, IsImageDuring}
+use Rattle.dev_model.specs.Story.{place, Past, Bytes, Call, Read, Write, Sync, FailedWrite, FailedCall, Past, Story, bytes_after, IsOutside, IsSettled, IsSpared, IsImageAt, IsImageNow, IsImageDuring}
 use Rattle.dev_model.specs.Laws.Ranges.{patched-outside}
 use Rattle.mem_device.specs.Inside.{bytes_with, image_with}
 use Rattle.mem_device.specs.TornImages.{overlaid, image_during, image_after, before_at_or_after, image_at}
@@ -40,18 +40,18 @@ during_settled torn start Sync calls i spared settled = image_after-settled torn
 during_settled torn start (Read at count) calls i spared settled = image_after-settled torn start calls i settled
 during_settled torn start FailedCall calls i spared settled = image_after-settled torn start calls i settled
 
-pub image_at-IsImage : (torn : Torn) (start : Bytes) (calls : Past) (m : ℕ) → IsImageAt start calls m (image_at torn start calls m)
+pub image_at-IsImage : (torn : Torn) (start : List ℕ) (calls : Past) (m : ℕ) → IsImageAt start calls m (image_at torn (place start) calls m)
 image_at-IsImage torn start [] m = λ i settled. refl
 image_at-IsImage torn start (call ∷ calls) m =
-    let earlier = image_at torn start calls m in
-    let during = image_during torn call (image_after torn start calls) in
-    let now = image_after torn start (call ∷ calls) in
+    let earlier = image_at torn (place start) calls m in
+    let during = image_during torn call (image_after torn (place start) calls) in
+    let now = image_after torn (place start) (call ∷ calls) in
     let s : Story = record { start = start; past = calls } in
     let t : Story = record { start = start; past = call ∷ calls } in
     elim (nat_cmp m (length calls)) as (λ o. MatchOrdering o (IsImageAt start calls m (before_at_or_after o earlier during now)) (IsImageDuring s call (before_at_or_after o earlier during now)) (IsImageNow t (before_at_or_after o earlier during now))) [
       | Less ↦ image_at-IsImage torn start calls m
-      | Equal ↦ (λ i spared settled. during_settled torn start call calls i spared settled)
-      | Greater ↦ (λ i settled. image_after-settled torn start (call ∷ calls) i settled)
+      | Equal ↦ (λ i spared settled. during_settled torn (place start) call calls i spared settled)
+      | Greater ↦ (λ i settled. image_after-settled torn (place start) (call ∷ calls) i settled)
     ]
 
 pub bytes_after-call : (start : Bytes) (call : Call) (calls : Past) → bytes_after start (call ∷ calls) ≡ bytes_with call (bytes_after start calls)

@@ -4,7 +4,8 @@ use Rattle.dev_model.specs.Story.{Past, Bytes, Call, bytes_after, bytes_of}
 use Rattle.mem_device.specs.Inside.{Noted}
 use Rattle.mem_device.specs.Memory.{bytes_noted}
 use Rattle.mem_device.specs.Inside.{IsOnDevice, AreOnDevice}
-use Rattle.mem_device.specs.Memory.{MemoryState, HasCallLeft, place, story_of}
+use Rattle.mem_device.specs.Memory.{MemoryState, HasCallLeft, story_of}
+use Rattle.dev_model.specs.Story.{place}
 use Rattle.mem_device.specs.Inside.{IsSoundMemory, with_missed}
 
 pub length-with_missed : (n : ℕ) (calls : Past) → length (with_missed n calls) ≡ n + length calls

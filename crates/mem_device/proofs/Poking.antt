@@ -4,7 +4,8 @@ use Rattle.std.proofs.lemmas.List.{drop-set-lt, drop-set-add, take-set-le, drop-
 use Rattle.std.proofs.Math.Seq.{take-set-lt}
 use Rattle.std.proofs.lemmas.Bool.Decides.{nat_tests}
 use Rattle.dev_model.specs.Story.{Bytes, Call, Read, Write, Sync, FailedWrite, FailedCall, Past, patched, bytes_after, IsInside, IsOutside}
-use Rattle.mem_device.specs.Memory.{place, bytes_noted, poked_list, poked_call}
+use Rattle.mem_device.specs.Memory.{bytes_noted, poked_list, poked_call}
+use Rattle.dev_model.specs.Story.{place}
 use Rattle.mem_device.specs.Inside.{bytes_from, call_of, calls_onto, IsWithin, AreWithin, size_of, BeginsAt, AreLaid, poked_in, poked_in_all, AreOnDevice, with_missed, IsSound, IsSoundMemory}
 use Rattle.dev_model.specs.Laws.Ranges.{patched-outside, patched-inside}
 use Rattle.mem_device.specs.declared.record.Kept.{Kept}

@@ -4,7 +4,8 @@ use Rattle.std.specs.Prelude.{◌≡◌, ◌⊎◌, ℕ, zero, suc, ◌+◌, ◌
 use Rattle.std.proofs.Common.{ap, refl}
 use Rattle.std.proofs.lemmas.Option.{same_Some}
 use Rattle.dev_model.specs.Story.{Bytes, Call, Read, Write, Sync, FailedWrite, FailedCall, Past, Story, bytes_after, clock_of, patched}
-use Rattle.mem_device.specs.Memory.{MemoryState, place, story_of, zeros, bytes_noted}
+use Rattle.mem_device.specs.Memory.{MemoryState, story_of, zeros, bytes_noted}
+use Rattle.dev_model.specs.Story.{place}
 use Rattle.mem_device.specs.TornImages.{overlaid}
 use Rattle.mem_device.specs.declared.record.Kept.{Kept}
 use Rattle.mem_device.specs.declared.record.Kept.TheVariants as stored

@@ -3,7 +3,7 @@ ghost use Rattle.std.specs.Prelude.{◌≡◌, ◌+◌, ◌<◌, ◌≤◌, ◌�
 ghost use Rattle.dev_model.specs.Story.{Read, Write, Sync, FailedWrite, FailedCall};
 ghost use Rattle.mem_device.specs.Memory.{bytes_noted, poked_call};
 ghost use Rattle.mem_device.specs.Inside.{call_of, calls_onto, IsWithin, AreWithin, poked_in, poked_in_all};
-ghost use Rattle.mem_device.specs.Memory.{place};
+ghost use Rattle.dev_model.specs.Story.{place};
 ghost use Rattle.mem_device.specs.Inside.{bytes_with, image_with, IsOnDevice, AreOnDevice};
 ghost use Rattle.mem_device.specs.TornImages.{image_during, image_at};
 

@@ -1,6 +1,6 @@
 // What a crash leaves of a range that was written and not synced.
 ghost use Rattle.std.specs.Prelude.{◌≡◌, ◌+◌, ◌≤◌, ℕ, length, slice_index};
-ghost use Rattle.mem_device.specs.Memory.{place};
+ghost use Rattle.dev_model.specs.Story.{place};
 ghost use Rattle.mem_device.specs.TornImages.{overlaid};
 
 #[derive(Clone, Copy, Debug, PartialEq, Eq)]

@@ -1,19 +1,18 @@
 -- Scans over all keys ask for all pages of each component's tree.
-use Rattle.std.proofs.Common.{◌≡◌, ℕ, zero, suc, ◌+◌, ◌*◌, ◌<◌, ◌≤◌, Bool, true, false, not, ◌&&◌, ◌||◌, List, [], ◌∷◌, ◌++◌, All, map, filter, length, get_or, slice_get, drop, drop-cons, ◌^◌, None, arith, refl, sym, ◌∙◌, ap, subst, inl, inr}
+use Rattle.std.proofs.Common.{◌≡◌, ℕ, zero, suc, ◌+◌, ◌*◌, ◌<◌, ◌≤◌, Bool, true, false, not, ◌&&◌, ◌||◌, List, [], ◌∷◌, ◌++◌, map, filter, length, get_or, slice_get, drop, drop-cons, ◌^◌, None, arith, refl, sym, ◌∙◌, ap, subst, inl, inr}
 use Rattle.std.proofs.Math.Nat.{mul-le-mul_left}
 use Rattle.std.proofs.lemmas.Bool.{cases_lt}
 use Rattle.std.proofs.lemmas.List.{append-nil}
 use Rattle.std.proofs.lemmas.Option.{slice_get-get_or, slice_get_past}
 use Rattle.std.specs.Prelude.{Option}
-use Rattle.std.specs.Ordering.{nat_cmp, is_gt, is_lt}
+use Rattle.std.specs.Ordering.{is_lt}
 use Rattle.std.specs.Cmp.{nat_cmp_is}
-use Rattle.std.specs.declared.cmp.Ordering.TheVariants.{Less, Equal}
+use Rattle.std.specs.declared.cmp.Ordering.TheVariants.{Less}
 use Rattle.std.proofs.lemmas.Cmp.{ranked}
 use Rattle.geo_base.specs.declared.limits.TheConstants.{MOST_KEY}
 use Rattle.tree_shape.specs.Shape.{level_size, span, IsRoot, numbers}
 use Rattle.tree_shape.specs.Laws.Covers.{span-pos}
 use Rattle.tree_shape.specs.Laws.Places.{child_has_row}
-use Rattle.btree_image.specs.Rows.{IsStored, Ascends}
 use Rattle.btree_image.specs.Image.{shape_of, IsList}
 use Rattle.btree_image.specs.Pages.{page_number}
 use Rattle.btree_image.specs.Shown.{IsShown}

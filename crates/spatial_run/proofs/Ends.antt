@@ -10,7 +10,7 @@ use Rattle.table_model.specs.Commands.{Command}
 use Rattle.table_model.specs.Phases.{Phases}
 use Rattle.table_model.specs.Record.{RunRecord, Rises}
 use Rattle.store_machine.specs.Standing.{StoreState, StandsSince}
-use Rattle.store_machine.specs.Devices.{DeviceState}
+use Rattle.dev_model.specs.Story.{DeviceState}
 use Rattle.store_machine.specs.Calls.{IsReady}
 use Rattle.spatial_run.specs.Tasks.{Task, format, serial, fresh}
 use Rattle.spatial_run.specs.OnDevice.{Formatting, OnlyOpened, RanOn}

@@ -12,7 +12,8 @@ use Rattle.component_image.specs.Laws.Agreeing.{recovers-same}
 use Rattle.component_image.specs.Laws.Without.{no_components}
 use Rattle.device_format.specs.Formatting.{IsFreshStore, HasNoStore, IsBeforeOrAfter, IsNoneOrEmpty}
 use Rattle.device_format.specs.Planning.{Formats}
-use Rattle.store_machine.specs.Devices.{DeviceState, HoldsTable}
+use Rattle.dev_model.specs.Story.{DeviceState}
+use Rattle.store_machine.specs.Devices.{HoldsTable}
 use Rattle.spatial_run.specs.Endings.{Ending, format_failed}
 use Rattle.spatial_run.specs.ByEvents.{FormattingBy}
 use Rattle.spatial_run.specs.OnDevice.{IsTableOrNone}

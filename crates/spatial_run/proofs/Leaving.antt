@@ -12,7 +12,8 @@ use Rattle.table_model.specs.Phases.{Phases}
 use Rattle.table_model.specs.Record.{RunRecord}
 use Rattle.component_image.specs.Laws.Agreeing.{recovers-same}
 use Rattle.store_machine.specs.Crash.{attempted}
-use Rattle.store_machine.specs.Devices.{DeviceState, HoldsTable}
+use Rattle.dev_model.specs.Story.{DeviceState}
+use Rattle.store_machine.specs.Devices.{HoldsTable}
 use Rattle.store_machine.specs.Outcomes.{Group, logged_groups}
 use Rattle.spatial_run.specs.declared.outcomes.Refusals.{Refusals}
 use Rattle.spatial_run.specs.Tasks.{Task, format, serial, fresh}

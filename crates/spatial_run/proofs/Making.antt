@@ -24,7 +24,8 @@ use Rattle.store_machine.specs.Outcomes.{Group, logged_groups}
 use Rattle.store_machine.specs.Crash.{Keeps, attempted}
 use Rattle.store_machine.specs.Commands.{Does, DoesAll, words, stopped_group}
 use Rattle.store_machine.specs.Standing.{StoreState, Stands, StandsSince, Tells}
-use Rattle.store_machine.specs.Devices.{DeviceState, HoldsTable}
+use Rattle.dev_model.specs.Story.{DeviceState}
+use Rattle.store_machine.specs.Devices.{HoldsTable}
 use Rattle.store_machine.specs.Calls.{IsReady}
 use Rattle.store_machine.specs.Laws.Steps.{Adds-none, Adds-then, since-adds}
 use Rattle.store_machine.specs.Laws.Since.{made-since}

@@ -12,7 +12,8 @@ use Rattle.table_model.specs.Record.{RunRecord}
 use Rattle.component_image.specs.Recovered.{Recovers}
 use Rattle.device_format.specs.Formatting.{IsEmptyStore, IsUnformatted}
 use Rattle.store_machine.specs.Crash.{acked_by, attempted, Keeps}
-use Rattle.store_machine.specs.Devices.{DeviceState, HoldsTable}
+use Rattle.dev_model.specs.Story.{DeviceState}
+use Rattle.store_machine.specs.Devices.{HoldsTable}
 use Rattle.store_machine.specs.Outcomes.{Group, logged_groups}
 use Rattle.spatial_run.specs.OnDevice.{LeavesOver, Formatting, IsTableOrNone, RanFrom}
 use Rattle.spatial_run.specs.Reopening.{begun_with, HoldsFirst}

@@ -6,7 +6,7 @@ use Rattle.table_model.specs.Commands.{Command}
 use Rattle.table_model.specs.Phases.{Phases}
 use Rattle.table_model.specs.Record.{RunRecord}
 use Rattle.store_machine.specs.Commands.{DoesAll, words, stopped_group}
-use Rattle.store_machine.specs.Devices.{DeviceState}
+use Rattle.dev_model.specs.Story.{DeviceState}
 use Rattle.store_machine.specs.Since.{MadeSince}
 use Rattle.store_machine.specs.declared.events.Event.{Event}
 use Rattle.spatial_run.specs.declared.outcomes.Refusals.{Refusals}

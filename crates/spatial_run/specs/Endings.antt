@@ -9,7 +9,7 @@ use Rattle.table_model.specs.Phases.{Phases}
 use Rattle.table_model.specs.Record.{RunRecord, record_text}
 use Rattle.script_lang.specs.declared.limits.TheConstants.{MOST_BYTES, MOST_COMMANDS}
 use Rattle.script_lang.specs.Scripts.{Wrong, bad_line, too_long, script_of}
-use Rattle.store_machine.specs.Devices.{DeviceState}
+use Rattle.dev_model.specs.Story.{DeviceState}
 use Rattle.store_opening.specs.declared.opening.OpenFault.{OpenFault}
 use Rattle.store_opening.specs.declared.opening.OpenFault.TheVariants as opening
 use Rattle.spatial_run.specs.Tasks.{Task, format, serial, fresh}
@@ -81,9 +81,9 @@ pub record Edges : Type 0 where
   pub device_new : DeviceState
 
 -- the same by what a source, a sink and a device tell of themselves
-abbrev pub edges_of : {S K D : Type 0} → (source_faults : S → ℕ) → (left : S → Option (List ℕ)) → (sink_faults : K → ℕ) → (taken : K → Option (List ℕ)) → (pages clock faults : D → ℕ) → (story : D → Option Story)
+abbrev pub edges_of : {S K D : Type 0} → (source_faults : S → ℕ) → (left : S → Option (List ℕ)) → (sink_faults : K → ℕ) → (taken : K → Option (List ℕ)) → (seen : D → DeviceState)
     → (source source_after : S) → (sink sink_after : K) → (device device_after : D) → Edges
-edges_of source_faults left sink_faults taken pages clock faults story source source_after sink sink_after device device_after = record {
+edges_of source_faults left sink_faults taken seen source source_after sink sink_after device device_after = record {
   source_old = source_faults source;
   source_new = source_faults source_after;
   left = left source;
@@ -91,8 +91,8 @@ edges_of source_faults left sink_faults taken pages clock faults story source so
   sink_new = sink_faults sink_after;
   before = taken sink;
   after = taken sink_after;
-  device_old = record { pages = pages device; clock = clock device; faults = faults device; story = story device };
-  device_new = record { pages = pages device_after; clock = clock device_after; faults = faults device_after; story = story device_after };
+  device_old = seen device;
+  device_new = seen device_after;
 }
 
 -- the task is to run a script

@@ -18,7 +18,8 @@ use Rattle.device_format.specs.Formatting.{IsFreshStore, HasNoStore, IsBeforeOrA
 use Rattle.store_opening.specs.Openings.{IsRefusal, HasFaulted}
 use Rattle.store_opening.specs.declared.opening.OpenFault.{OpenFault}
 use Rattle.store_machine.specs.Crash.{Keeps, attempted}
-use Rattle.store_machine.specs.Devices.{DeviceState, HoldsTable}
+use Rattle.dev_model.specs.Story.{DeviceState}
+use Rattle.store_machine.specs.Devices.{HoldsTable}
 use Rattle.store_machine.specs.Outcomes.{Group, logged_groups}
 use Rattle.spatial_run.specs.declared.outcomes.Refusals.{Refusals}
 use Rattle.spatial_run.specs.Refused.{record_words, refusals_by}

@@ -8,7 +8,7 @@ use Rattle.table_model.specs.Record.{OneEach, Rises, seqs, refused_words}
 use Rattle.table_model.specs.Text.{answer_text, refused_text}
 use Rattle.store_machine.specs.Commands.{DoesAll, words}
 use Rattle.store_machine.specs.Standing.{StoreState, StandsSince}
-use Rattle.store_machine.specs.Devices.{DeviceState}
+use Rattle.dev_model.specs.Story.{DeviceState}
 use Rattle.store_machine.specs.Calls.{IsReady}
 use Rattle.store_machine.specs.declared.events.Event.{Event}
 use Rattle.store_commands.specs.Commands.{Made}

@@ -3,9 +3,9 @@ ghost use Rattle.std.specs.Prelude.{◌≡◌, ◌≤◌, [], Some, Ok, Err, IfO
 ghost use Rattle.std.specs.Option.{option_map};
 ghost use Rattle.space_map.specs.declared.space.TheConstants.{LEAST_PAGES, MOST_PAGES};
 ghost use Rattle.script_lang.specs.CommandViews.{phases_of};
-ghost use Rattle.store_machine.specs.Devices.{DeviceState};
+ghost use Rattle.dev_model.specs.Story.{DeviceState};
 ghost use Rattle.store_commands.specs.Commands.{IsServing};
-ghost use Rattle.store_core.specs.Stores.{state_of, device_of};
+ghost use Rattle.store_core.specs.Stores.{state_of};
 ghost use Rattle.spatial_run.specs.Tasks as tasks;
 ghost use Rattle.spatial_run.specs.Endings as model;
 ghost use Rattle.spatial_run.specs.Views.{outcomes_of};
@@ -62,10 +62,10 @@ fn ran(alloc: Global, script: Script, ran: RanCommands) -> Ending
 
 // The script on a store that was opened.
 fn run_on<D: Device>(alloc: Global, script: Script, store: Store<D>) -> Run<D>
-    requires serving { IsServing (state_of D.pages D.clock D.fault_count D.story store) }
-    requires opened { (from : DeviceState) × OpenedOn from (state_of D.pages D.clock D.fault_count D.story store) }
+    requires serving { IsServing (state_of D.seen store) }
+    requires opened { (from : DeviceState) × OpenedOn from (state_of D.seen store) }
     requires alone { IsSetupAlone (phases_of script) }
-    ensures end { IsStoreEnd (phases_of script) (state_of D.pages D.clock D.fault_count D.story store) (device_of D.pages D.clock D.fault_count D.story result.device) result.acks.items (ending_of result.ending) }
+    ensures end { IsStoreEnd (phases_of script) (state_of D.seen store) (D.seen result.device) result.acks.items (ending_of result.ending) }
     ensures plain { IsPlain (ending_of result.ending) }
 {
     let mut store = store;
@@ -91,10 +91,10 @@ fn run_on<D: Device>(alloc: Global, script: Script, store: Store<D>) -> Run<D>
 
 // Opens the store that is on the device, and runs the script on it.
 fn run_script<D: Device>(alloc: Global, script: Script, device: D) -> Run<D>
-    requires least { LEAST_PAGES ≤ D.pages device }
-    requires most { D.pages device ≤ MOST_PAGES }
+    requires least { LEAST_PAGES ≤ (D.seen device).pages }
+    requires most { (D.seen device).pages ≤ MOST_PAGES }
     requires alone { IsSetupAlone (phases_of script) }
-    ensures end { IsRunEnd (phases_of script) (device_of D.pages D.clock D.fault_count D.story device) (device_of D.pages D.clock D.fault_count D.story result.device) result.acks.items (ending_of result.ending) }
+    ensures end { IsRunEnd (phases_of script) (D.seen device) (D.seen result.device) result.acks.items (ending_of result.ending) }
     ensures plain { IsPlain (ending_of result.ending) }
 {
     match Store::open(alloc, device) {
@@ -105,9 +105,9 @@ fn run_script<D: Device>(alloc: Global, script: Script, device: D) -> Run<D>
 
 // Makes the device an empty store.
 fn format<D: Device>(alloc: Global, indexes: IndexSet, device: D) -> Run<D>
-    requires least { LEAST_PAGES ≤ D.pages device }
-    requires most { D.pages device ≤ MOST_PAGES }
-    ensures end { IsFormatEnd indexes (device_of D.pages D.clock D.fault_count D.story device) (device_of D.pages D.clock D.fault_count D.story result.device) result.acks.items (ending_of result.ending) }
+    requires least { LEAST_PAGES ≤ (D.seen device).pages }
+    requires most { (D.seen device).pages ≤ MOST_PAGES }
+    ensures end { IsFormatEnd indexes (D.seen device) (D.seen result.device) result.acks.items (ending_of result.ending) }
     ensures plain { IsPlain (ending_of result.ending) }
 {
     let mut device = device;
@@ -122,10 +122,10 @@ fn format<D: Device>(alloc: Global, indexes: IndexSet, device: D) -> Run<D>
 
 // Makes the device an empty store, and runs the script on it.
 fn run_formatted<D: Device>(alloc: Global, indexes: IndexSet, script: Script, device: D) -> Run<D>
-    requires least { LEAST_PAGES ≤ D.pages device }
-    requires most { D.pages device ≤ MOST_PAGES }
+    requires least { LEAST_PAGES ≤ (D.seen device).pages }
+    requires most { (D.seen device).pages ≤ MOST_PAGES }
     requires alone { IsSetupAlone (phases_of script) }
-    ensures end { IsFreshEnd indexes (phases_of script) (device_of D.pages D.clock D.fault_count D.story device) (device_of D.pages D.clock D.fault_count D.story result.device) result.acks.items (ending_of result.ending) }
+    ensures end { IsFreshEnd indexes (phases_of script) (D.seen device) (D.seen result.device) result.acks.items (ending_of result.ending) }
     ensures plain { IsPlain (ending_of result.ending) }
 {
     let mut device = device;
@@ -153,9 +153,9 @@ fn read<R: Source>(alloc: Global, source: &mut R) -> Result<Script, Ending>
 
 // Runs a script on the store that is there.
 fn run_serial<R: Source, D: Device>(alloc: Global, source: &mut R, device: D) -> Run<D>
-    requires least { LEAST_PAGES ≤ D.pages device }
-    requires most { D.pages device ≤ MOST_PAGES }
-    ensures cause { Cause (Some tasks.serial) (R.fault_count source.old) (R.fault_count source.new) (R.left source.old) (device_of D.pages D.clock D.fault_count D.story device) (device_of D.pages D.clock D.fault_count D.story result.device) result.acks.items (ending_of result.ending) }
+    requires least { LEAST_PAGES ≤ (D.seen device).pages }
+    requires most { (D.seen device).pages ≤ MOST_PAGES }
+    ensures cause { Cause (Some tasks.serial) (R.fault_count source.old) (R.fault_count source.new) (R.left source.old) (D.seen device) (D.seen result.device) result.acks.items (ending_of result.ending) }
     ensures plain { IsPlain (ending_of result.ending) }
 {
     match read(alloc, source) {
@@ -171,9 +171,9 @@ fn run_fresh<R: Source, D: Device>(
     source: &mut R,
     device: D,
 ) -> Run<D>
-    requires least { LEAST_PAGES ≤ D.pages device }
-    requires most { D.pages device ≤ MOST_PAGES }
-    ensures cause { Cause (Some (tasks.fresh indexes)) (R.fault_count source.old) (R.fault_count source.new) (R.left source.old) (device_of D.pages D.clock D.fault_count D.story device) (device_of D.pages D.clock D.fault_count D.story result.device) result.acks.items (ending_of result.ending) }
+    requires least { LEAST_PAGES ≤ (D.seen device).pages }
+    requires most { (D.seen device).pages ≤ MOST_PAGES }
+    ensures cause { Cause (Some (tasks.fresh indexes)) (R.fault_count source.old) (R.fault_count source.new) (R.left source.old) (D.seen device) (D.seen result.device) result.acks.items (ending_of result.ending) }
     ensures plain { IsPlain (ending_of result.ending) }
 {
     match read(alloc, source) {
@@ -184,9 +184,9 @@ fn run_fresh<R: Source, D: Device>(
 
 // Does a task that there is.
 fn run_one<R: Source, D: Device>(alloc: Global, task: Task, source: &mut R, device: D) -> Run<D>
-    requires least { LEAST_PAGES ≤ D.pages device }
-    requires most { D.pages device ≤ MOST_PAGES }
-    ensures cause { Cause (Some (task_as task)) (R.fault_count source.old) (R.fault_count source.new) (R.left source.old) (device_of D.pages D.clock D.fault_count D.story device) (device_of D.pages D.clock D.fault_count D.story result.device) result.acks.items (ending_of result.ending) }
+    requires least { LEAST_PAGES ≤ (D.seen device).pages }
+    requires most { (D.seen device).pages ≤ MOST_PAGES }
+    ensures cause { Cause (Some (task_as task)) (R.fault_count source.old) (R.fault_count source.new) (R.left source.old) (D.seen device) (D.seen result.device) result.acks.items (ending_of result.ending) }
     ensures plain { IsPlain (ending_of result.ending) }
 {
     match task {
@@ -203,9 +203,9 @@ pub(crate) fn run_task<R: Source, D: Device>(
     source: &mut R,
     device: D,
 ) -> Run<D>
-    requires least { LEAST_PAGES ≤ D.pages device }
-    requires most { D.pages device ≤ MOST_PAGES }
-    ensures cause { Cause (option_map task_as task) (R.fault_count source.old) (R.fault_count source.new) (R.left source.old) (device_of D.pages D.clock D.fault_count D.story device) (device_of D.pages D.clock D.fault_count D.story result.device) result.acks.items (ending_of result.ending) }
+    requires least { LEAST_PAGES ≤ (D.seen device).pages }
+    requires most { (D.seen device).pages ≤ MOST_PAGES }
+    ensures cause { Cause (option_map task_as task) (R.fault_count source.old) (R.fault_count source.new) (R.left source.old) (D.seen device) (D.seen result.device) result.acks.items (ending_of result.ending) }
     ensures plain { IsPlain (ending_of result.ending) }
 {
     match task {

@@ -108,9 +108,9 @@ fn flush_outcome(answer: Result<(), Why>) -> Outcome
 
 // One command, with the upkeep that it needs or that is due after it.
 fn run_one<D: Device>(alloc: Global, store: &mut Store<D>, command: &Command) -> Done
-    requires serving { IsServing (state_of D.pages D.clock D.fault_count D.story store.old) }
-    ensures done { HasDone (state_of D.pages D.clock D.fault_count D.story store.old) (state_of D.pages D.clock D.fault_count D.story store.new) 0 (command_of command.now) (outcome_of result.outcome) result.upkeep }
-    ensures serving { IsServing (state_of D.pages D.clock D.fault_count D.story store.new) }
+    requires serving { IsServing (state_of D.seen store.old) }
+    ensures done { HasDone (state_of D.seen store.old) (state_of D.seen store.new) 0 (command_of command.now) (outcome_of result.outcome) result.upkeep }
+    ensures serving { IsServing (state_of D.seen store.new) }
 {
     match command {
         Command::Put(row) => {
@@ -156,11 +156,11 @@ pub(crate) fn run_commands<D: Device>(
     store: &mut Store<D>,
     commands: &[Command],
 ) -> Result<RanCommands, AllocError>
-    requires serving { IsServing (state_of D.pages D.clock D.fault_count D.story store.old) }
-    ensures made { IfOk result (λ ran. MadeAll (state_of D.pages D.clock D.fault_count D.story store.old) (state_of D.pages D.clock D.fault_count D.story store.new) (commands_of commands.now) (outcomes_of ran.outcomes.items) ran.refusals) }
+    requires serving { IsServing (state_of D.seen store.old) }
+    ensures made { IfOk result (λ ran. MadeAll (state_of D.seen store.old) (state_of D.seen store.new) (commands_of commands.now) (outcomes_of ran.outcomes.items) ran.refusals) }
     ensures few { length commands.now < 2 ^ 63 }
-    ensures serving { IsServing (state_of D.pages D.clock D.fault_count D.story store.new) }
-    ensures refused { OnErr result (state_of D.pages D.clock D.fault_count D.story store.new ≡ state_of D.pages D.clock D.fault_count D.story store.old) }
+    ensures serving { IsServing (state_of D.seen store.new) }
+    ensures refused { OnErr result (state_of D.seen store.new ≡ state_of D.seen store.old) }
 {
     let mut outcomes = OutcomeList::new(alloc);
     let mut refusals = Refusals::none();

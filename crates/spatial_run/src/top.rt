@@ -22,11 +22,11 @@ pub fn run_serial<R: Source, K: Sink, D: Device>(
     out: &mut K,
     device: D,
 ) -> Ended<D>
-    requires least { LEAST_PAGES ≤ D.pages device }
-    requires most { D.pages device ≤ MOST_PAGES }
-    ensures headline { Ends Formatting RanOn (Some serial) (edges_of R.fault_count R.left K.fault_count K.taken D.pages D.clock D.fault_count D.story script.old script.new out.old out.new device result.device) result.status result.acks.items (record_of result.outcomes) }
+    requires least { LEAST_PAGES ≤ (D.seen device).pages }
+    requires most { (D.seen device).pages ≤ MOST_PAGES }
+    ensures headline { Ends Formatting RanOn (Some serial) (edges_of R.fault_count R.left K.fault_count K.taken D.seen script.old script.new out.old out.new device result.device) result.status result.acks.items (record_of result.outcomes) }
     // And it is so by a list of events of the store, with the device calls of each.
-    ensures events { Ends FormattingBy RanByEvents (Some serial) (edges_of R.fault_count R.left K.fault_count K.taken D.pages D.clock D.fault_count D.story script.old script.new out.old out.new device result.device) result.status result.acks.items (record_of result.outcomes) }
+    ensures events { Ends FormattingBy RanByEvents (Some serial) (edges_of R.fault_count R.left K.fault_count K.taken D.seen script.old script.new out.old out.new device result.device) result.status result.acks.items (record_of result.outcomes) }
 {
     let run = run_task(alloc, Some(Task::Serial), script, device);
     finish(alloc, run, out)
@@ -47,14 +47,14 @@ pub fn run_top<R: Source, K: Sink, D: Device>(
     out: &mut K,
     device: D,
 ) -> Ended<D>
-    requires least { LEAST_PAGES ≤ D.pages device }
-    requires most { D.pages device ≤ MOST_PAGES }
+    requires least { LEAST_PAGES ≤ (D.seen device).pages }
+    requires most { (D.seen device).pages ≤ MOST_PAGES }
     // What is printed is one history of a plain table, each command answered as the table answers at that place; a crash at any
     // moment leaves the table after the first of the writes, with every acknowledged one; and each ending and status has its
     // cause.
-    ensures headline { Ends Formatting RanOn (task_of (map (λ w. w.now) words.now)) (edges_of R.fault_count R.left K.fault_count K.taken D.pages D.clock D.fault_count D.story script.old script.new out.old out.new device result.device) result.status result.acks.items (record_of result.outcomes) }
+    ensures headline { Ends Formatting RanOn (task_of (map (λ w. w.now) words.now)) (edges_of R.fault_count R.left K.fault_count K.taken D.seen script.old script.new out.old out.new device result.device) result.status result.acks.items (record_of result.outcomes) }
     // And it is so by a list of events of the store, with the device calls of each.
-    ensures events { Ends FormattingBy RanByEvents (task_of (map (λ w. w.now) words.now)) (edges_of R.fault_count R.left K.fault_count K.taken D.pages D.clock D.fault_count D.story script.old script.new out.old out.new device result.device) result.status result.acks.items (record_of result.outcomes) }
+    ensures events { Ends FormattingBy RanByEvents (task_of (map (λ w. w.now) words.now)) (edges_of R.fault_count R.left K.fault_count K.taken D.seen script.old script.new out.old out.new device result.device) result.status result.acks.items (record_of result.outcomes) }
 {
     let run = run_task(alloc, task_of(words), script, device);
     finish(alloc, run, out)

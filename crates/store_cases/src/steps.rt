@@ -91,7 +91,7 @@ pub fn formatted(alloc: Global, room: usize, fail: &[u64]) -> Option<MemDevice>
 
 /// The store of a device, where it can be opened.
 fn opened<D: Device + Drop>(alloc: Global, device: D) -> Option<Store<D>>
-    ensures { IfSome result (λ store. IsReady (state_of D.pages D.clock D.fault_count D.story store)) }
+    ensures { IfSome result (λ store. IsReady (state_of D.seen store)) }
 {
     if device.pages() < LEAST_PAGES || device.pages() > MOST_PAGES {
         return None;
@@ -155,8 +155,8 @@ impl Told {
     }
 
     fn write<D: Device>(&mut self, store: &mut Store<D>, op: WriteOp) -> Option<()>
-        requires { IsReady (state_of D.pages D.clock D.fault_count D.story store.old) }
-        ensures { IsReady (state_of D.pages D.clock D.fault_count D.story store.new) }
+        requires { IsReady (state_of D.seen store.old) }
+        ensures { IsReady (state_of D.seen store.new) }
     {
         let before = store.device().clock();
         match store.write(OWNER, &op) {
@@ -169,8 +169,8 @@ impl Told {
     }
 
     fn get<D: Device>(&mut self, store: &mut Store<D>, key: u64) -> Option<()>
-        requires { IsReady (state_of D.pages D.clock D.fault_count D.story store.old) }
-        ensures { IsReady (state_of D.pages D.clock D.fault_count D.story store.new) }
+        requires { IsReady (state_of D.seen store.old) }
+        ensures { IsReady (state_of D.seen store.new) }
     {
         match store.get(OWNER, key) {
             Ok(got) => {
@@ -182,8 +182,8 @@ impl Told {
     }
 
     fn count<D: Device>(&mut self, store: &mut Store<D>) -> Option<()>
-        requires { IsReady (state_of D.pages D.clock D.fault_count D.story store.old) }
-        ensures { IsReady (state_of D.pages D.clock D.fault_count D.story store.new) }
+        requires { IsReady (state_of D.seen store.old) }
+        ensures { IsReady (state_of D.seen store.new) }
     {
         let (seq, rows) = store.count(OWNER);
         self.numbered(Answer::Counted(rows), seq)
@@ -195,8 +195,8 @@ impl Told {
         store: &mut Store<D>,
         kind: IndexKind,
     ) -> Option<()>
-        requires { IsReady (state_of D.pages D.clock D.fault_count D.story store.old) }
-        ensures { IsReady (state_of D.pages D.clock D.fault_count D.story store.new) }
+        requires { IsReady (state_of D.seen store.old) }
+        ensures { IsReady (state_of D.seen store.new) }
     {
         let Ok(square) = Rect::new(0, 0, 9, 9) else {
             return None;
@@ -208,8 +208,8 @@ impl Told {
     }
 
     fn freeze<D: Device>(&mut self, store: &mut Store<D>, least: u32) -> Option<()>
-        requires { IsReady (state_of D.pages D.clock D.fault_count D.story store.old) }
-        ensures { IsReady (state_of D.pages D.clock D.fault_count D.story store.new) }
+        requires { IsReady (state_of D.seen store.old) }
+        ensures { IsReady (state_of D.seen store.new) }
     {
         if least == 0 {
             return None;
@@ -221,8 +221,8 @@ impl Told {
     }
 
     fn begin<D: Device>(&mut self, alloc: Global, store: &mut Store<D>) -> Option<()>
-        requires { IsReady (state_of D.pages D.clock D.fault_count D.story store.old) }
-        ensures { IsReady (state_of D.pages D.clock D.fault_count D.story store.new) }
+        requires { IsReady (state_of D.seen store.old) }
+        ensures { IsReady (state_of D.seen store.new) }
     {
         match store.begin_job(alloc, OWNER) {
             Ok(job) => self.plain(Answer::Begun(job.is_some())),
@@ -231,8 +231,8 @@ impl Told {
     }
 
     fn flush<D: Device>(&mut self, alloc: Global, store: &mut Store<D>) -> Option<()>
-        requires { IsReady (state_of D.pages D.clock D.fault_count D.story store.old) }
-        ensures { IsReady (state_of D.pages D.clock D.fault_count D.story store.new) }
+        requires { IsReady (state_of D.seen store.old) }
+        ensures { IsReady (state_of D.seen store.new) }
     {
         match flush(alloc, store) {
             Ok(pages) => self.plain(Answer::Flushed(pages)),
@@ -243,9 +243,9 @@ impl Told {
 
 /// Writes all pages of a job, and says how many.
 fn write_pages<D: Device>(store: &mut Store<D>, job: &mut BuildJob) -> Result<u32, Refusal>
-    requires ready { IsReady (state_of D.pages D.clock D.fault_count D.story store.old) }
+    requires ready { IsReady (state_of D.seen store.old) }
     requires begun { IsJobOf store.old.state.0 OWNER job.old }
-    ensures ready { IsReady (state_of D.pages D.clock D.fault_count D.story store.new) }
+    ensures ready { IsReady (state_of D.seen store.new) }
     ensures begun { IsJobOf store.new.state.0 OWNER job.new }
     ensures written { OnOk result (steps_left job.new ≡ 0) }
 {
@@ -261,8 +261,8 @@ fn write_pages<D: Device>(store: &mut Store<D>, job: &mut BuildJob) -> Result<u3
 
 /// Writes the list that waits into a component, and says how many pages it has.
 fn flush<D: Device>(alloc: Global, store: &mut Store<D>) -> Result<Option<u32>, Refusal>
-    requires { IsReady (state_of D.pages D.clock D.fault_count D.story store.old) }
-    ensures { IsReady (state_of D.pages D.clock D.fault_count D.story store.new) }
+    requires { IsReady (state_of D.seen store.old) }
+    ensures { IsReady (state_of D.seen store.new) }
 {
     let Some(job) = store.begin_job(alloc, OWNER)? else {
         return Ok(None);
@@ -275,8 +275,8 @@ fn flush<D: Device>(alloc: Global, store: &mut Store<D>) -> Result<Option<u32>, 
 
 /// Takes a step.
 fn take<D: Device>(alloc: Global, store: &mut Store<D>, step: Step, told: &mut Told) -> Option<()>
-    requires { IsReady (state_of D.pages D.clock D.fault_count D.story store.old) }
-    ensures { IsReady (state_of D.pages D.clock D.fault_count D.story store.new) }
+    requires { IsReady (state_of D.seen store.old) }
+    ensures { IsReady (state_of D.seen store.new) }
 {
     match step {
         Step::Put(key, x) => {
@@ -299,8 +299,8 @@ fn take<D: Device>(alloc: Global, store: &mut Store<D>, step: Step, told: &mut T
 
 /// Takes the steps.
 fn take_all<D: Device>(alloc: Global, store: &mut Store<D>, steps: &[Step]) -> Option<Told>
-    requires { IsReady (state_of D.pages D.clock D.fault_count D.story store.old) }
-    ensures { IsReady (state_of D.pages D.clock D.fault_count D.story store.new) }
+    requires { IsReady (state_of D.seen store.old) }
+    ensures { IsReady (state_of D.seen store.new) }
 {
     let mut told = Told::new(alloc);
     for step in steps {

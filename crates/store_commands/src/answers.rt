@@ -16,10 +16,10 @@ use table_model::Why;
 
 /// The row of a key. `Fault` where a page could not be read, and `Damaged` where one that was read is none for its place.
 pub fn get<D: Device>(store: &mut Store<D>, owner: u64, key: u64) -> Result<Got, Why>
-    requires serving { IsServing (state_of D.pages D.clock D.fault_count D.story store.old) }
-    ensures done { HasDone (state_of D.pages D.clock D.fault_count D.story store.old) (state_of D.pages D.clock D.fault_count D.story store.new) owner (on_table (model.get key)) (get_outcome result) None }
-    ensures alone { IsOneEvent (state_of D.pages D.clock D.fault_count D.story store.old) (state_of D.pages D.clock D.fault_count D.story store.new) owner (model.get key) (get_outcome result) }
-    ensures serving { IsServing (state_of D.pages D.clock D.fault_count D.story store.new) }
+    requires serving { IsServing (state_of D.seen store.old) }
+    ensures done { HasDone (state_of D.seen store.old) (state_of D.seen store.new) owner (on_table (model.get key)) (get_outcome result) None }
+    ensures alone { IsOneEvent (state_of D.seen store.old) (state_of D.seen store.new) owner (model.get key) (get_outcome result) }
+    ensures serving { IsServing (state_of D.seen store.new) }
 {
     match store.get(owner, key) {
         Ok(got) => Ok(got),
@@ -29,10 +29,10 @@ pub fn get<D: Device>(store: &mut Store<D>, owner: u64, key: u64) -> Result<Got,
 
 /// The number of the answer, and the number of rows of the table.
 pub fn count<D: Device>(store: &mut Store<D>, owner: u64) -> (u64, u64)
-    requires serving { IsServing (state_of D.pages D.clock D.fault_count D.story store.old) }
-    ensures done { HasDone (state_of D.pages D.clock D.fault_count D.story store.old) (state_of D.pages D.clock D.fault_count D.story store.new) owner (on_table model.count) (answered result.0 (counted result.1)) None }
-    ensures alone { IsOneEvent (state_of D.pages D.clock D.fault_count D.story store.old) (state_of D.pages D.clock D.fault_count D.story store.new) owner model.count (answered result.0 (counted result.1)) }
-    ensures serving { IsServing (state_of D.pages D.clock D.fault_count D.story store.new) }
+    requires serving { IsServing (state_of D.seen store.old) }
+    ensures done { HasDone (state_of D.seen store.old) (state_of D.seen store.new) owner (on_table model.count) (answered result.0 (counted result.1)) None }
+    ensures alone { IsOneEvent (state_of D.seen store.old) (state_of D.seen store.new) owner model.count (answered result.0 (counted result.1)) }
+    ensures serving { IsServing (state_of D.seen store.new) }
 {
     store.count(owner)
 }
@@ -46,10 +46,10 @@ pub fn region<D: Device>(
     kind: IndexKind,
     rect: &Rect,
 ) -> Result<RegionRows, Why>
-    requires serving { IsServing (state_of D.pages D.clock D.fault_count D.story store.old) }
-    ensures done { HasDone (state_of D.pages D.clock D.fault_count D.story store.old) (state_of D.pages D.clock D.fault_count D.story store.new) owner (on_table (model.region kind rect.now)) (region_outcome (rows_found result)) None }
-    ensures alone { IsOneEvent (state_of D.pages D.clock D.fault_count D.story store.old) (state_of D.pages D.clock D.fault_count D.story store.new) owner (model.region kind rect.now) (region_outcome (rows_found result)) }
-    ensures serving { IsServing (state_of D.pages D.clock D.fault_count D.story store.new) }
+    requires serving { IsServing (state_of D.seen store.old) }
+    ensures done { HasDone (state_of D.seen store.old) (state_of D.seen store.new) owner (on_table (model.region kind rect.now)) (region_outcome (rows_found result)) None }
+    ensures alone { IsOneEvent (state_of D.seen store.old) (state_of D.seen store.new) owner (model.region kind rect.now) (region_outcome (rows_found result)) }
+    ensures serving { IsServing (state_of D.seen store.new) }
 {
     match store.region(alloc, owner, kind, rect) {
         Ok(found) => Ok(found),

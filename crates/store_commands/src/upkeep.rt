@@ -47,12 +47,12 @@ fn write_pages<D: Device>(
     owner: u64,
     job: &mut BuildJob,
 ) -> Result<(), Refusal>
-    requires ready { IsReady (state_of D.pages D.clock D.fault_count D.story store.old) }
-    requires standing { IsStanding (state_of D.pages D.clock D.fault_count D.story store.old) }
+    requires ready { IsReady (state_of D.seen store.old) }
+    requires standing { IsStanding (state_of D.seen store.old) }
     requires begun { IsJobOf store.old.state.0 owner job.old }
-    ensures ready { IsReady (state_of D.pages D.clock D.fault_count D.story store.new) }
-    ensures upkeep { KeepsUp (state_of D.pages D.clock D.fault_count D.story store.old) (state_of D.pages D.clock D.fault_count D.story store.new) owner result }
-    ensures written { HasWritten (state_of D.pages D.clock D.fault_count D.story store.old) (state_of D.pages D.clock D.fault_count D.story store.new) owner job.new result }
+    ensures ready { IsReady (state_of D.seen store.new) }
+    ensures upkeep { KeepsUp (state_of D.seen store.old) (state_of D.seen store.new) owner result }
+    ensures written { HasWritten (state_of D.seen store.old) (state_of D.seen store.new) owner job.new result }
 {
     while let JobStep::Write(_) = job.step() {
         if let Err(refusal) = store.job_write(owner, job) {
@@ -68,12 +68,12 @@ fn write_component<D: Device>(
     owner: u64,
     job: BuildJob,
 ) -> Result<(), Refusal>
-    requires ready { IsReady (state_of D.pages D.clock D.fault_count D.story store.old) }
-    requires standing { IsStanding (state_of D.pages D.clock D.fault_count D.story store.old) }
+    requires ready { IsReady (state_of D.seen store.old) }
+    requires standing { IsStanding (state_of D.seen store.old) }
     requires begun { IsJobOf store.old.state.0 owner job }
-    ensures serving { IsServing (state_of D.pages D.clock D.fault_count D.story store.new) }
-    ensures upkeep { KeepsUp (state_of D.pages D.clock D.fault_count D.story store.old) (state_of D.pages D.clock D.fault_count D.story store.new) owner result }
-    ensures flushed { HasNoFrozen (state_of D.pages D.clock D.fault_count D.story store.old) (state_of D.pages D.clock D.fault_count D.story store.new) result }
+    ensures serving { IsServing (state_of D.seen store.new) }
+    ensures upkeep { KeepsUp (state_of D.seen store.old) (state_of D.seen store.new) owner result }
+    ensures flushed { HasNoFrozen (state_of D.seen store.old) (state_of D.seen store.new) result }
 {
     let mut job = job;
     if let Err(refusal) = write_pages(store, owner, &mut job) {
@@ -84,10 +84,10 @@ fn write_component<D: Device>(
 
 // Flushes the list that waits, if one does.
 fn flush_frozen<D: Device>(alloc: Global, store: &mut Store<D>, owner: u64) -> Result<(), Refusal>
-    requires serving { IsServing (state_of D.pages D.clock D.fault_count D.story store.old) }
-    ensures serving { IsServing (state_of D.pages D.clock D.fault_count D.story store.new) }
-    ensures upkeep { KeepsUp (state_of D.pages D.clock D.fault_count D.story store.old) (state_of D.pages D.clock D.fault_count D.story store.new) owner result }
-    ensures flushed { HasNoFrozen (state_of D.pages D.clock D.fault_count D.story store.old) (state_of D.pages D.clock D.fault_count D.story store.new) result }
+    requires serving { IsServing (state_of D.seen store.old) }
+    ensures serving { IsServing (state_of D.seen store.new) }
+    ensures upkeep { KeepsUp (state_of D.seen store.old) (state_of D.seen store.new) owner result }
+    ensures flushed { HasNoFrozen (state_of D.seen store.old) (state_of D.seen store.new) result }
 {
     match store.begin_job(alloc, owner) {
         Ok(Some(job)) => write_component(store, owner, job),
@@ -103,12 +103,12 @@ fn flush_active<D: Device>(
     owner: u64,
     least: u32,
 ) -> Result<(), Refusal>
-    requires serving { IsServing (state_of D.pages D.clock D.fault_count D.story store.old) }
+    requires serving { IsServing (state_of D.seen store.old) }
     requires least { 1 ≤ least }
     requires none_waits { store.old.state.0.frozen ≡ None }
-    ensures serving { IsServing (state_of D.pages D.clock D.fault_count D.story store.new) }
-    ensures upkeep { KeepsUp (state_of D.pages D.clock D.fault_count D.story store.old) (state_of D.pages D.clock D.fault_count D.story store.new) owner result }
-    ensures flushed { HasFlushed (state_of D.pages D.clock D.fault_count D.story store.old) (state_of D.pages D.clock D.fault_count D.story store.new) least result }
+    ensures serving { IsServing (state_of D.seen store.new) }
+    ensures upkeep { KeepsUp (state_of D.seen store.old) (state_of D.seen store.new) owner result }
+    ensures flushed { HasFlushed (state_of D.seen store.old) (state_of D.seen store.new) least result }
 {
     match store.freeze(owner, least) {
         Ok(true) => flush_frozen(alloc, store, owner),
@@ -125,11 +125,11 @@ pub(crate) fn keep_up<D: Device>(
     owner: u64,
     least: u32,
 ) -> Result<(), Refusal>
-    requires serving { IsServing (state_of D.pages D.clock D.fault_count D.story store.old) }
+    requires serving { IsServing (state_of D.seen store.old) }
     requires least { 1 ≤ least }
-    ensures serving { IsServing (state_of D.pages D.clock D.fault_count D.story store.new) }
-    ensures upkeep { KeepsUp (state_of D.pages D.clock D.fault_count D.story store.old) (state_of D.pages D.clock D.fault_count D.story store.new) owner result }
-    ensures flushed { HasFlushed (state_of D.pages D.clock D.fault_count D.story store.old) (state_of D.pages D.clock D.fault_count D.story store.new) least result }
+    ensures serving { IsServing (state_of D.seen store.new) }
+    ensures upkeep { KeepsUp (state_of D.seen store.old) (state_of D.seen store.new) owner result }
+    ensures flushed { HasFlushed (state_of D.seen store.old) (state_of D.seen store.new) least result }
 {
     if let Err(refusal) = flush_frozen(alloc, store, owner) {
         return Err(refusal);
@@ -143,10 +143,10 @@ pub(crate) fn keep_up<D: Device>(
 /// steps: `Stopped`, `Full` where there is no room for a component, `Memory`, and `Fault` where a write or a sync of the device
 /// fails, which stops the store.
 pub fn flush<D: Device>(alloc: Global, store: &mut Store<D>, owner: u64) -> Result<(), Why>
-    requires serving { IsServing (state_of D.pages D.clock D.fault_count D.story store.old) }
-    ensures done { HasDone (state_of D.pages D.clock D.fault_count D.story store.old) (state_of D.pages D.clock D.fault_count D.story store.new) owner flush (flush_outcome result) None }
-    ensures idle { store.old.log.next_lsn - 1 ≤ placed_up_to store.old.state.0.components → (result ≡ Ok tt) × OnlyLooks (state_of D.pages D.clock D.fault_count D.story store.old) (state_of D.pages D.clock D.fault_count D.story store.new) owner }
-    ensures serving { IsServing (state_of D.pages D.clock D.fault_count D.story store.new) }
+    requires serving { IsServing (state_of D.seen store.old) }
+    ensures done { HasDone (state_of D.seen store.old) (state_of D.seen store.new) owner flush (flush_outcome result) None }
+    ensures idle { store.old.log.next_lsn - 1 ≤ placed_up_to store.old.state.0.components → (result ≡ Ok tt) × OnlyLooks (state_of D.seen store.old) (state_of D.seen store.new) owner }
+    ensures serving { IsServing (state_of D.seen store.new) }
 {
     let before = store.look(owner);
     if before.placed >= before.lsn {

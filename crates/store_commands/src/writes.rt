@@ -22,9 +22,9 @@ fn write_again<D: Device>(
     owner: u64,
     op: &WriteOp,
 ) -> Result<Wrote, Why>
-    requires serving { IsServing (state_of D.pages D.clock D.fault_count D.story store.old) }
-    ensures again { WritesAgain (state_of D.pages D.clock D.fault_count D.story store.old) (state_of D.pages D.clock D.fault_count D.story store.new) owner op.now result }
-    ensures serving { IsServing (state_of D.pages D.clock D.fault_count D.story store.new) }
+    requires serving { IsServing (state_of D.seen store.old) }
+    ensures again { WritesAgain (state_of D.seen store.old) (state_of D.seen store.new) owner op.now result }
+    ensures serving { IsServing (state_of D.seen store.new) }
 {
     if let Err(refusal) = keep_up(alloc, store, owner, FLUSH_AT) {
         return Err(word_of(refusal));
@@ -42,9 +42,9 @@ fn write_with_room<D: Device>(
     owner: u64,
     op: &WriteOp,
 ) -> Result<Wrote, Why>
-    requires serving { IsServing (state_of D.pages D.clock D.fault_count D.story store.old) }
-    ensures tried { HasTried (state_of D.pages D.clock D.fault_count D.story store.old) (state_of D.pages D.clock D.fault_count D.story store.new) owner op.now result }
-    ensures serving { IsServing (state_of D.pages D.clock D.fault_count D.story store.new) }
+    requires serving { IsServing (state_of D.seen store.old) }
+    ensures tried { HasTried (state_of D.seen store.old) (state_of D.seen store.new) owner op.now result }
+    ensures serving { IsServing (state_of D.seen store.new) }
 {
     match store.write(owner, op) {
         Ok(wrote) => Ok(wrote),
@@ -61,9 +61,9 @@ fn keep_up_behind<D: Device>(
     owner: u64,
     ops: u32,
 ) -> Option<Why>
-    requires serving { IsServing (state_of D.pages D.clock D.fault_count D.story store.old) }
-    ensures kept { HasKeptBehind FLUSH_AT (state_of D.pages D.clock D.fault_count D.story store.old) (state_of D.pages D.clock D.fault_count D.story store.new) owner ops result }
-    ensures serving { IsServing (state_of D.pages D.clock D.fault_count D.story store.new) }
+    requires serving { IsServing (state_of D.seen store.old) }
+    ensures kept { HasKeptBehind FLUSH_AT (state_of D.seen store.old) (state_of D.seen store.new) owner ops result }
+    ensures serving { IsServing (state_of D.seen store.new) }
 {
     if ops < FLUSH_AT {
         return None;
@@ -87,10 +87,10 @@ pub struct Written {
 /// memory and in the log, they are flushed; what that is refused for changes no answer, and is told beside it. The refusals are
 /// those of the write, or of the flush that has to make room for it.
 pub fn write<D: Device>(alloc: Global, store: &mut Store<D>, owner: u64, op: &WriteOp) -> Written
-    requires serving { IsServing (state_of D.pages D.clock D.fault_count D.story store.old) }
-    ensures done { HasDone (state_of D.pages D.clock D.fault_count D.story store.old) (state_of D.pages D.clock D.fault_count D.story store.new) owner (on_table (write (write_of op.now))) (write_outcome op.now result.answer) result.upkeep }
-    ensures kept { WritesKept 1024 (state_of D.pages D.clock D.fault_count D.story store.old) (state_of D.pages D.clock D.fault_count D.story store.new) owner op.now result.answer }
-    ensures serving { IsServing (state_of D.pages D.clock D.fault_count D.story store.new) }
+    requires serving { IsServing (state_of D.seen store.old) }
+    ensures done { HasDone (state_of D.seen store.old) (state_of D.seen store.new) owner (on_table (write (write_of op.now))) (write_outcome op.now result.answer) result.upkeep }
+    ensures kept { WritesKept 1024 (state_of D.seen store.old) (state_of D.seen store.new) owner op.now result.answer }
+    ensures serving { IsServing (state_of D.seen store.new) }
 {
     match write_with_room(alloc, store, owner, op) {
         Ok(wrote) => {

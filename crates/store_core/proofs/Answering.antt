@@ -18,13 +18,13 @@ use Rattle.store_state.specs.Reading.{IsLegible}
 use Rattle.store_state.specs.OnlyRead.{HasRead, IsOnlyRead}
 use Rattle.store_machine.specs.Calls.{Makes}
 use Rattle.store_machine.specs.Standing.{StoreState}
-use Rattle.store_machine.specs.Devices.{DeviceState}
+use Rattle.dev_model.specs.Story.{DeviceState}
 use Rattle.store_machine.specs.declared.events.Look.{Look}
 use Rattle.store_machine.specs.declared.events.Refusal.TheVariants.{Fault, Damaged}
 use Rattle.store_machine.specs.Laws.Damages.{no-cause}
 use Rattle.store_machine.specs.Laws.Events.{still-event, stays-go_on, reads-event}
 use Rattle.store_machine.specs.Runs.{way_to}
-use Rattle.store_machine.specs.Laws.Reading.{GoesOnWay, HasOnlyRead, read-cause, seen_of}
+use Rattle.store_machine.specs.Laws.Reading.{GoesOnWay, HasOnlyRead, read-cause}
 use Rattle.store_machine.specs.declared.events.Action.TheVariants.{Get, Count, Look as Looked}
 use Rattle.store_core.specs.Refusals.{refusal_of}
 
@@ -53,7 +53,7 @@ pub record ReadsRow (old : StoreState) (now : DeviceState) (key : ℕ) (result :
   pub time : old.device.clock ≤ now.clock
 
 -- what a call that reads a row shows
-pub reads-row : (old : StoreState) (now : DeviceState) (key : ℕ) (result : Result (Option Row) PageFault) (pages : List ℕ) → HasRead old.lists (seen_of old.device) (seen_of now) result pages
+pub reads-row : (old : StoreState) (now : DeviceState) (key : ℕ) (result : Result (Option Row) PageFault) (pages : List ℕ) → HasRead old.lists old.device now result pages
     → GoesOnWay old (way_to key) result pages
     → WhereTold old.device.story (λ s. IsOnlyRead old.device.pages old.lists s now.story) → now.pages ≡ old.device.pages → old.device.faults ≤ now.faults
     → ((s : Story) → now.story ≡ Some s → now.clock ≡ clock_of s)

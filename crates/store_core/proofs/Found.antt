@@ -16,7 +16,7 @@ use Rattle.device_pages.specs.Asked.{calls_of}
 use Rattle.primary_ix.specs.declared.rows.PrimRow.{PrimRow}
 use Rattle.store_machine.specs.Needs.{place_in}
 use Rattle.store_machine.specs.Standing.{StoreState}
-use Rattle.store_machine.specs.Devices.{DeviceState}
+use Rattle.dev_model.specs.Story.{DeviceState}
 use Rattle.store_state.specs.Reading.{IsLegible}
 use Rattle.store_state.specs.OnlyRead.{IsPageIn}
 use Rattle.store_state.specs.Laws.ReadingStays.{legible-before_reads}

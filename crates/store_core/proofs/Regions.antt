@@ -16,14 +16,14 @@ use Rattle.store_state.specs.Reading.{IsLegible}
 use Rattle.store_state.specs.OnlyRead.{HasRead, IsOnlyRead}
 use Rattle.store_machine.specs.Calls.{Makes}
 use Rattle.store_machine.specs.Standing.{StoreState}
-use Rattle.store_machine.specs.Devices.{DeviceState}
+use Rattle.dev_model.specs.Story.{DeviceState}
 use Rattle.store_machine.specs.declared.events.Found.{Found}
 use Rattle.store_machine.specs.declared.events.Refusal.{Refusal}
 use Rattle.store_machine.specs.declared.events.Refusal.TheVariants.{Fault, NoIndex, Damaged, OutOfMemory}
 use Rattle.store_machine.specs.Laws.Damages.{no-cause}
 use Rattle.store_machine.specs.Laws.Events.{still-event, stays-go_on, reads-event}
 use Rattle.store_machine.specs.Runs.{way_to_all, IsFirstOf}
-use Rattle.store_machine.specs.Laws.Reading.{AreReads-weaker, GoesOnWay, HasOnlyRead, IsPartBy, first-of, is_failed, read-cause, seen_of}
+use Rattle.store_machine.specs.Laws.Reading.{AreReads-weaker, GoesOnWay, HasOnlyRead, IsPartBy, first-of, is_failed, read-cause}
 use Rattle.store_machine.specs.declared.events.Action.TheVariants.{Region}
 use Rattle.store_core.specs.Refusals.{refusal_of}
 use Rattle.store_core.specs.Regions.{records_in}
@@ -135,7 +135,7 @@ not-read {X} old now fault refusal pages owner kind rect reads sound rose bad de
         refl (λ m calls are. are)
     by_fault page.OutOfMemory reads_it never rises wrong = no-memory old now (Err page.OutOfMemory) pages owner kind rect reads_it refl declared
 
-pub read-facts : {X : Type 0} (old : StoreState) (now : DeviceState) (result : Result X PageFault) (pages : List ℕ) → HasRead old.lists (seen_of old.device) (seen_of now) result pages
+pub read-facts : {X : Type 0} (old : StoreState) (now : DeviceState) (result : Result X PageFault) (pages : List ℕ) → HasRead old.lists old.device now result pages
     → GoesOnWay old way_to_all result pages
     → WhereTold old.device.story (λ s. IsOnlyRead old.device.pages old.lists s now.story) → now.pages ≡ old.device.pages → old.device.faults ≤ now.faults
     → ((s : Story) → now.story ≡ Some s → now.clock ≡ clock_of s) → HasOnlyRead old now way_to_all result pages

@@ -27,10 +27,9 @@ use Rattle.store_state.specs.Lists.{extents_of, trees_of}
 use Rattle.store_state.specs.OnlyRead.{HasRead}
 use Rattle.kept_state.specs.Writing.{next_record}
 use Rattle.store_machine.specs.Laws.LogCalls.{append-calls}
-use Rattle.store_machine.specs.Laws.Reading.{seen_of}
 use Rattle.store_machine.specs.Runs.{log_calls}
 use Rattle.store_machine.specs.Standing.{StoreState}
-use Rattle.store_machine.specs.Devices.{DeviceState}
+use Rattle.dev_model.specs.Story.{DeviceState}
 use Rattle.store_machine.specs.declared.events.Refusal.{Refusal}
 use Rattle.store_machine.specs.declared.events.Refusal.TheVariants.{Fault, Stopped, Full, Again, NoIndex, Damaged, OutOfMemory}
 use Rattle.store_machine.specs.declared.events.Wrote.{Wrote}
@@ -67,17 +66,17 @@ read-before pages s mid now log r made width did =
     }
 
 module _ (old : StoreState) (now : DeviceState) where
-  pub tested : {X Y : Type 0} (x : X) (y : Y) (pages : List ℕ) → HasRead old.lists (seen_of old.device) (seen_of now) (Ok x) pages
+  pub tested : {X Y : Type 0} (x : X) (y : Y) (pages : List ℕ) → HasRead old.lists old.device now (Ok x) pages
       → WhereTold (contents_of (extents_of old.lists.components) old.device.story) (λ contents. All (IsTestedIn (trees_of old.lists.components) contents) pages) → TestsPages old now (Ok y)
   tested x y pages read all s told contents is = (pages, read-pages pages s now.story (read.made s told), all contents is)
 
   -- with a write behind the reads
-  pub tested-before : {X Y : Type 0} (mid : DeviceState) (x : X) (y : Y) (pages : List ℕ) (log : Log) (r : Record) → HasRead old.lists (seen_of old.device) (seen_of mid) (Ok x) pages
+  pub tested-before : {X Y : Type 0} (mid : DeviceState) (x : X) (y : Y) (pages : List ℕ) (log : Log) (r : Record) → HasRead old.lists old.device mid (Ok x) pages
       → WhereTold (contents_of (extents_of old.lists.components) old.device.story) (λ contents. All (IsTestedIn (trees_of old.lists.components) contents) pages)
       → length (record_bytes r) ≡ 95 → now.story ≡ all_noted (append_calls log r) mid.story → TestsPages old now (Ok y)
   tested-before mid x y pages log r read all width did s told contents is = (pages, read-before pages s mid.story now.story log r (read.made s told) width did, all contents is)
 
-  pub damaged : {X : Type 0} (Y : Type 0) (fault : PageFault) (pages : List ℕ) → HasRead {X = X} old.lists (seen_of old.device) (seen_of now) (Err fault) pages
+  pub damaged : {X : Type 0} (Y : Type 0) (fault : PageFault) (pages : List ℕ) → HasRead {X = X} old.lists old.device now (Err fault) pages
       → WhereTold (contents_of (extents_of old.lists.components) old.device.story) (λ contents. (n : ℕ) → fault ≡ page.Damaged n → IsDamagedIn (trees_of old.lists.components) contents n)
       → TestsPages {X = Y} old now (Err (refusal_of fault))
   damaged Y page.Failed pages read bad s told contents is = tt
@@ -85,7 +84,7 @@ module _ (old : StoreState) (now : DeviceState) where
   damaged Y page.OutOfMemory pages read bad s told contents is = tt
 
 -- a write behind the read of its row
-pub tested-write : (old : StoreState) (mid now : DeviceState) (op : LogOp) (row : Option Row) (result : Result Wrote Refusal) (pages : List ℕ) → HasRead old.lists (seen_of old.device) (seen_of mid) (Ok row) pages
+pub tested-write : (old : StoreState) (mid now : DeviceState) (op : LogOp) (row : Option Row) (result : Result Wrote Refusal) (pages : List ℕ) → HasRead old.lists old.device mid (Ok row) pages
     → WhereTold (contents_of (extents_of old.lists.components) old.device.story) (λ contents. All (IsTestedIn (trees_of old.lists.components) contents) pages)
     → OnOk result (HasAppended (record old { device = mid }) now op row) → IfErr result (λ refusal. refusal ≡ Fault) → TestsPages old now result
 tested-write old mid now op row (Ok wrote) pages read all logged fault = tested-before old now mid row wrote pages old.log (next_record old.log op (old_point row)) read all logged.width logged.did

@@ -17,7 +17,7 @@ use Rattle.build_job.specs.Jobs.{Job, described}
 use Rattle.build_job.specs.Steps.{steps_left}
 use Rattle.store_machine.specs.Calls.{Makes}
 use Rattle.store_machine.specs.Standing.{StoreState, Has, Tells}
-use Rattle.store_machine.specs.Devices.{DeviceState}
+use Rattle.dev_model.specs.Story.{DeviceState}
 use Rattle.store_machine.specs.declared.events.OwnedJob.{OwnedJob}
 use Rattle.store_machine.specs.declared.events.Refusal.TheVariants.{Fault, Stopped}
 use Rattle.store_state.specs.Beginning.{IsRefused, MayBegin, fresh}

@@ -20,7 +20,7 @@ use Rattle.store_machine.specs.Machine.{is_logged, Machine}
 use Rattle.store_machine.specs.Needs.{place_in, RefusesWrite, IsReadyToWrite}
 use Rattle.store_machine.specs.Calls.{Makes}
 use Rattle.store_machine.specs.Standing.{StoreState, Has, Tells}
-use Rattle.store_machine.specs.Devices.{DeviceState}
+use Rattle.dev_model.specs.Story.{DeviceState}
 use Rattle.store_machine.specs.declared.events.Wrote.{Wrote}
 use Rattle.store_machine.specs.declared.events.Refusal.{Refusal}
 use Rattle.store_machine.specs.declared.events.Refusal.TheVariants.{Fault, Stopped, Full, Again, NoIndex, Damaged, OutOfMemory}

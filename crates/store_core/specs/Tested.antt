@@ -13,7 +13,7 @@ use Rattle.primary_ix.specs.Damage.{IsDamagedIn}
 use Rattle.primary_ix.specs.declared.component.PrimComp.{PrimComp}
 use Rattle.store_state.specs.Lists.{extents_of, trees_of}
 use Rattle.store_machine.specs.Standing.{StoreState}
-use Rattle.store_machine.specs.Devices.{DeviceState}
+use Rattle.dev_model.specs.Story.{DeviceState}
 use Rattle.store_machine.specs.declared.events.Refusal.{Refusal}
 use Rattle.store_machine.specs.declared.events.Refusal.TheVariants.{Damaged}
 

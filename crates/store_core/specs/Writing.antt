@@ -22,7 +22,7 @@ use Rattle.store_machine.specs.Laws.Logging.{between, LogsAll, LogFails, failed_
 use Rattle.store_machine.specs.Runs.{way_to}
 use Rattle.store_machine.specs.Laws.Reading.{HasOnlyRead}
 use Rattle.store_machine.specs.Standing.{StoreState}
-use Rattle.store_machine.specs.Devices.{DeviceState}
+use Rattle.dev_model.specs.Story.{DeviceState}
 
 -- nothing has stopped the store, and there is room for one write more
 pub record CanWrite (store : StoreState) : Type 0 where

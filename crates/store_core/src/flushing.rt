@@ -31,7 +31,7 @@ impl<D: Device> Store<D> {
     // Stops the store, since a write or a sync of its device failed. It answers what the call then answers.
     fn stop(&mut self) -> Refusal
         ensures fault { result ≡ Refusal.Fault }
-        ensures stopped { self.new ≡ record self.old { stopped = Some (D.fault_count self.old.device) } }
+        ensures stopped { self.new ≡ record self.old { stopped = Some (D.seen self.old.device).faults } }
     {
         self.stopped = Some(self.device.faults());
         Refusal::Fault
@@ -42,10 +42,10 @@ impl<D: Device> Store<D> {
     ///
     /// `Stopped` where a write or a sync of the device failed earlier, and `Fault` where one fails now, which stops the store.
     pub fn freeze(&mut self, owner: u64, least: u32) -> Result<bool, Refusal>
-        requires ready { IsReady (state_of D.pages D.clock D.fault_count D.story self.old) }
+        requires ready { IsReady (state_of D.seen self.old) }
         requires least { 1 ≤ least }
-        ensures event { Makes (state_of D.pages D.clock D.fault_count D.story self.old) (state_of D.pages D.clock D.fault_count D.story self.new) owner (Action.Freeze least result) }
-        ensures ready { IsReady (state_of D.pages D.clock D.fault_count D.story self.new) }
+        ensures event { Makes (state_of D.seen self.old) (state_of D.seen self.new) owner (Action.Freeze least result) }
+        ensures ready { IsReady (state_of D.seen self.new) }
     {
         if let Some(faults) = self.stopped {
             return Err(Refusal::Stopped { faults });
@@ -69,10 +69,10 @@ impl<D: Device> Store<D> {
     /// writes the active list has. `Full` where there is no room: so many pages side by side are needed, and the longest free
     /// run has so many; where there are as many components as there may be, or no slot is closed, 1 is needed and there are 0.
     pub fn begin_job(&mut self, alloc: Global, owner: u64) -> Result<Option<BuildJob>, Refusal>
-        requires ready { IsReady (state_of D.pages D.clock D.fault_count D.story self.old) }
-        ensures event { Makes (state_of D.pages D.clock D.fault_count D.story self.old) (state_of D.pages D.clock D.fault_count D.story self.new) owner (begin_of owner result) }
+        requires ready { IsReady (state_of D.seen self.old) }
+        ensures event { Makes (state_of D.seen self.old) (state_of D.seen self.new) owner (begin_of owner result) }
         ensures job { IfOk result (λ begun. IfSome begun (λ job. IsJobOf self.new.state.0 owner job)) }
-        ensures ready { IsReady (state_of D.pages D.clock D.fault_count D.story self.new) }
+        ensures ready { IsReady (state_of D.seen self.new) }
     {
         if let Some(faults) = self.stopped {
             return Err(Refusal::Stopped { faults });
@@ -89,14 +89,14 @@ impl<D: Device> Store<D> {
     ///
     /// `Stopped` where a write or a sync of the device failed earlier, and `Fault` where this write fails, which stops the store.
     pub fn job_write(&mut self, owner: u64, job: &mut BuildJob) -> Result<(), Refusal>
-        requires ready { IsReady (state_of D.pages D.clock D.fault_count D.story self.old) }
+        requires ready { IsReady (state_of D.seen self.old) }
         requires begun { IsJobOf self.old.state.0 owner job.old }
         requires left { 0 < steps_left job.old }
-        ensures event { Makes (state_of D.pages D.clock D.fault_count D.story self.old) (state_of D.pages D.clock D.fault_count D.story self.new) owner (Action.JobWrite (record { owner = owner; job = job.old }) result) }
+        ensures event { Makes (state_of D.seen self.old) (state_of D.seen self.new) owner (Action.JobWrite (record { owner = owner; job = job.old }) result) }
         ensures begun { IsJobOf self.new.state.0 owner job.new }
         ensures next { OnOk result (job.new ≡ record job.old { written = job.old.written + 1 }) }
         ensures unchanged { OnErr result (job.new ≡ job.old) }
-        ensures ready { IsReady (state_of D.pages D.clock D.fault_count D.story self.new) }
+        ensures ready { IsReady (state_of D.seen self.new) }
     {
         if let Some(faults) = self.stopped {
             return Err(Refusal::Stopped { faults });
@@ -112,11 +112,11 @@ impl<D: Device> Store<D> {
     ///
     /// `Stopped` where a write or a sync of the device failed earlier, and `Fault` where one fails now, which stops the store.
     pub fn install(&mut self, owner: u64, job: &BuildJob) -> Result<(), Refusal>
-        requires ready { IsReady (state_of D.pages D.clock D.fault_count D.story self.old) }
+        requires ready { IsReady (state_of D.seen self.old) }
         requires begun { IsJobOf self.old.state.0 owner job.now }
         requires written { steps_left job.now ≡ 0 }
-        ensures event { Makes (state_of D.pages D.clock D.fault_count D.story self.old) (state_of D.pages D.clock D.fault_count D.story self.new) owner (Action.Install (record { owner = owner; job = job.now }) result) }
-        ensures ready { IsReady (state_of D.pages D.clock D.fault_count D.story self.new) }
+        ensures event { Makes (state_of D.seen self.old) (state_of D.seen self.new) owner (Action.Install (record { owner = owner; job = job.now }) result) }
+        ensures ready { IsReady (state_of D.seen self.new) }
     {
         if let Some(faults) = self.stopped {
             return Err(Refusal::Stopped { faults });

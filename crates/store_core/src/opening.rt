@@ -8,7 +8,7 @@ ghost use Rattle.store_opening.specs.Openings.{IsRefusal, HasFaulted};
 ghost use Rattle.store_machine.specs.Calls.{IsReady};
 ghost use Rattle.store_machine.specs.Standing.{StandsSince};
 ghost use Rattle.store_machine.specs.Laws.Opening.{opened_state};
-ghost use Rattle.store_core.specs.Stores.{state_of, device_of};
+ghost use Rattle.store_core.specs.Stores.{state_of};
 
 use crate::store::Store;
 use dev_model::Device;
@@ -25,17 +25,17 @@ impl<D: Device> Store<D> {
     /// slot that can't be, and `BadLog` of the first segment in the order of the generations that can't be, exactly where they
     /// hold of the bytes; `Fault` where a call of the device failed, which ends the opening; `OutOfMemory`.
     pub fn open(alloc: Global, device: D) -> Result<Store<D>, (D, OpenFault)>
-        requires least { LEAST_PAGES ≤ D.pages device }
-        requires most { D.pages device ≤ MOST_PAGES }
-        ensures stands { IfOk result (λ store. StandsSince (device_of D.pages D.clock D.fault_count D.story device) (state_of D.pages D.clock D.fault_count D.story store) []) }
-        ensures ready { IfOk result (λ store. IsReady (state_of D.pages D.clock D.fault_count D.story store)) }
-        ensures idle { IfOk result (λ store. (state_of D.pages D.clock D.fault_count D.story store).lists.job ≡ None) }
-        ensures refused { IfErr result (λ refused. WhereTold (D.story device) (λ s. IsCalmAt (IsLookedAt (bytes_of s)) s → IsRefusal (D.pages device) refused.1 (bytes_of s))) }
-        ensures faulted { IfErr result (λ refused. HasFaulted (D.fault_count device) (D.fault_count refused.0) refused.1) }
-        ensures reads { IfOk result (λ store. WhereTold (D.story device) (λ s. ReadsWithin IsOpeningRange s (state_of D.pages D.clock D.fault_count D.story store).device.story)) }
-        ensures reads_refused { IfErr result (λ refused. WhereTold (D.story device) (λ s. ReadsWithin IsOpeningRange s (D.story refused.0))) }
-        ensures same_pages { IfErr result (λ refused. D.pages refused.0 ≡ D.pages device) }
-        ensures pages { IfOk result (λ store. (state_of D.pages D.clock D.fault_count D.story store).device.pages ≡ D.pages device) }
+        requires least { LEAST_PAGES ≤ (D.seen device).pages }
+        requires most { (D.seen device).pages ≤ MOST_PAGES }
+        ensures stands { IfOk result (λ store. StandsSince (D.seen device) (state_of D.seen store) []) }
+        ensures ready { IfOk result (λ store. IsReady (state_of D.seen store)) }
+        ensures idle { IfOk result (λ store. (state_of D.seen store).lists.job ≡ None) }
+        ensures refused { IfErr result (λ refused. WhereTold (D.seen device).story (λ s. IsCalmAt (IsLookedAt (bytes_of s)) s → IsRefusal (D.seen device).pages refused.1 (bytes_of s))) }
+        ensures faulted { IfErr result (λ refused. HasFaulted (D.seen device).faults (D.seen refused.0).faults refused.1) }
+        ensures reads { IfOk result (λ store. WhereTold (D.seen device).story (λ s. ReadsWithin IsOpeningRange s (state_of D.seen store).device.story)) }
+        ensures reads_refused { IfErr result (λ refused. WhereTold (D.seen device).story (λ s. ReadsWithin IsOpeningRange s (D.seen refused.0).story)) }
+        ensures same_pages { IfErr result (λ refused. (D.seen refused.0).pages ≡ (D.seen device).pages) }
+        ensures pages { IfOk result (λ store. (state_of D.seen store).device.pages ≡ (D.seen device).pages) }
     {
         let mut device = device;
         match open_state(alloc, &mut device) {
@@ -46,7 +46,7 @@ impl<D: Device> Store<D> {
 
     // The store when nothing has happened yet.
     fn of_opened(alloc: Global, device: D, opened: OpenedState) -> Store<D>
-        ensures { state_of D.pages D.clock D.fault_count D.story result ≡ opened_state (device_of D.pages D.clock D.fault_count D.story device) opened.indexes opened.log opened.state.0 }
+        ensures { state_of D.seen result ≡ opened_state (D.seen device) opened.indexes opened.log opened.state.0 }
     {
         let opened_at = device.clock();
         let opened_faults = device.faults();

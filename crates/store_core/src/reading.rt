@@ -27,10 +27,10 @@ impl<D: Device> Store<D> {
     /// last is none for its place, which doesn't come where the store was opened from what was on the disk. After an answer
     /// each page that was read has the header of its place.
     pub fn get(&mut self, owner: u64, key: u64) -> Result<Got, Refusal>
-        requires ready { IsReady (state_of D.pages D.clock D.fault_count D.story self.old) }
-        ensures event { Makes (state_of D.pages D.clock D.fault_count D.story self.old) (state_of D.pages D.clock D.fault_count D.story self.new) owner (Action.Get key result) }
-        ensures pages { TestsPages (state_of D.pages D.clock D.fault_count D.story self.old) (state_of D.pages D.clock D.fault_count D.story self.new).device result }
-        ensures ready { IsReady (state_of D.pages D.clock D.fault_count D.story self.new) }
+        requires ready { IsReady (state_of D.seen self.old) }
+        ensures event { Makes (state_of D.seen self.old) (state_of D.seen self.new) owner (Action.Get key result) }
+        ensures pages { TestsPages (state_of D.seen self.old) (state_of D.seen self.new).device result }
+        ensures ready { IsReady (state_of D.seen self.new) }
     {
         match read_row(&mut self.device, &self.state, key) {
             Ok(row) => {

@@ -63,10 +63,10 @@ impl<D: Device> Store<D> {
         kind: IndexKind,
         rect: &Rect,
     ) -> Result<RegionRows, Refusal>
-        requires ready { IsReady (state_of D.pages D.clock D.fault_count D.story self.old) }
-        ensures event { Makes (state_of D.pages D.clock D.fault_count D.story self.old) (state_of D.pages D.clock D.fault_count D.story self.new) owner (Action.Region kind rect.now (found_of result)) }
-        ensures pages { TestsPages (state_of D.pages D.clock D.fault_count D.story self.old) (state_of D.pages D.clock D.fault_count D.story self.new).device result }
-        ensures ready { IsReady (state_of D.pages D.clock D.fault_count D.story self.new) }
+        requires ready { IsReady (state_of D.seen self.old) }
+        ensures event { Makes (state_of D.seen self.old) (state_of D.seen self.new) owner (Action.Region kind rect.now (found_of result)) }
+        ensures pages { TestsPages (state_of D.seen self.old) (state_of D.seen self.new).device result }
+        ensures ready { IsReady (state_of D.seen self.new) }
     {
         if !self.indexes.has(kind) {
             return Err(Refusal::NoIndex);

@@ -3,7 +3,7 @@ ghost use Rattle.std.specs.Prelude.{◌≡◌};
 ghost use Rattle.dev_model.specs.Counts.{next_count};
 ghost use Rattle.store_machine.specs.Calls.{IsReady, Makes};
 ghost use Rattle.store_machine.specs.declared.events.Action.{Action};
-ghost use Rattle.store_core.specs.Stores.{state_of, device_of};
+ghost use Rattle.store_core.specs.Stores.{state_of};
 
 use dev_model::Device;
 use geo_base::{IndexSet, ItemList};
@@ -41,8 +41,8 @@ impl<D: Device> Store<D> {
 
     /// The number of the answer, and the number of rows of the table. It takes no memory.
     pub fn count(&mut self, owner: u64) -> (u64, u64)
-        ensures event { Makes (state_of D.pages D.clock D.fault_count D.story self.old) (state_of D.pages D.clock D.fault_count D.story self.new) owner (Action.Count result.0 result.1) }
-        ensures ready { IsReady (state_of D.pages D.clock D.fault_count D.story self.old) → IsReady (state_of D.pages D.clock D.fault_count D.story self.new) }
+        ensures event { Makes (state_of D.seen self.old) (state_of D.seen self.new) owner (Action.Count result.0 result.1) }
+        ensures ready { IsReady (state_of D.seen self.old) → IsReady (state_of D.seen self.new) }
     {
         let rows = self.state.rows();
         (self.draw(), rows)
@@ -50,8 +50,8 @@ impl<D: Device> Store<D> {
 
     /// What the store tells about itself. It takes no memory.
     pub fn look(&self, owner: u64) -> Look
-        requires ready { IsReady (state_of D.pages D.clock D.fault_count D.story self.now) }
-        ensures event { Makes (state_of D.pages D.clock D.fault_count D.story self.now) (state_of D.pages D.clock D.fault_count D.story self.now) owner (Action.Look result) }
+        requires ready { IsReady (state_of D.seen self.now) }
+        ensures event { Makes (state_of D.seen self.now) (state_of D.seen self.now) owner (Action.Look result) }
     {
         Look {
             ops: self.log.records as u32,
@@ -64,29 +64,29 @@ impl<D: Device> Store<D> {
 
     /// The declared indexes.
     pub fn declared(&self) -> IndexSet
-        ensures { result ≡ (state_of D.pages D.clock D.fault_count D.story self.now).declared }
+        ensures { result ≡ (state_of D.seen self.now).declared }
     {
         self.indexes
     }
 
     /// For each write that was logged since the opening, in the order of the writes, the clock from which on each crash leaves it.
     pub fn acks(&self) -> &[u64]
-        ensures { result.now ≡ (state_of D.pages D.clock D.fault_count D.story self.now).acks }
+        ensures { result.now ≡ (state_of D.seen self.now).acks }
     {
         self.acks.as_slice()
     }
 
     /// The device, to look at.
     pub fn device(&self) -> &D
-        ensures { device_of D.pages D.clock D.fault_count D.story result.now ≡ (state_of D.pages D.clock D.fault_count D.story self.now).device }
+        ensures { D.seen result.now ≡ (state_of D.seen self.now).device }
     {
         &self.device
     }
 
     /// Gives the device back, with the acks. It takes no memory.
     pub fn into_dev(self) -> (D, ItemList<u64>)
-        ensures device { device_of D.pages D.clock D.fault_count D.story result.0 ≡ (state_of D.pages D.clock D.fault_count D.story self).device }
-        ensures acks { result.1.items ≡ (state_of D.pages D.clock D.fault_count D.story self).acks }
+        ensures device { D.seen result.0 ≡ (state_of D.seen self).device }
+        ensures acks { result.1.items ≡ (state_of D.seen self).acks }
     {
         let Store { device, acks, .. } = self;
         (device, acks)

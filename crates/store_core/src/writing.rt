@@ -72,9 +72,9 @@ fn has_to_log(op: &WriteOp, row: &Option<Row>) -> bool
 impl<D: Device> Store<D> {
     // Why a write is refused before anything is done.
     fn check_write(&self) -> Result<(), Refusal>
-        requires ready { IsReady (state_of D.pages D.clock D.fault_count D.story self.now) }
-        ensures can { OnOk result (CanWrite (state_of D.pages D.clock D.fault_count D.story self.now)) }
-        ensures refused { IfErr result (RefusesNow (state_of D.pages D.clock D.fault_count D.story self.now)) }
+        requires ready { IsReady (state_of D.seen self.now) }
+        ensures can { OnOk result (CanWrite (state_of D.seen self.now)) }
+        ensures refused { IfErr result (RefusesNow (state_of D.seen self.now)) }
     {
         if let Some(faults) = self.stopped {
             return Err(Refusal::Stopped { faults });
@@ -95,7 +95,7 @@ impl<D: Device> Store<D> {
 
     // Takes all memory of a write: there is room for its row and for its ack.
     fn make_room(&mut self) -> Result<(), AllocError>
-        ensures same { state_of D.pages D.clock D.fault_count D.story self.new ≡ state_of D.pages D.clock D.fault_count D.story self.old }
+        ensures same { state_of D.seen self.new ≡ state_of D.seen self.old }
         ensures acks { OnOk result (0 < self.new.acks.spare) }
         ensures rows { OnOk result (1 ≤ self.new.state.1) }
     {
@@ -105,15 +105,15 @@ impl<D: Device> Store<D> {
 
     // Logs a write of a key where this row stood, and lays its row in memory. Where the device fails, the store is stopped.
     fn log_op(&mut self, op: &WriteOp, row: &Option<Row>) -> Result<u64, Failed>
-        requires ready { IsReady (state_of D.pages D.clock D.fault_count D.story self.old) }
-        requires can { CanWrite (state_of D.pages D.clock D.fault_count D.story self.old) }
+        requires ready { IsReady (state_of D.seen self.old) }
+        requires can { CanWrite (state_of D.seen self.old) }
         requires room { 0 < self.old.acks.spare }
         requires room_in_memory { 1 ≤ self.old.state.1 }
         requires logs { has_to_log op.now (is_some row.now) ≡ true }
-        requires says { (table : Table) (disk : List (List PrimRow)) → WhereTold (D.story self.old.device) (λ s. IsLegible table disk self.old.state.0 s → SaysOld table (next_record self.old.log op.now (old_point row.now))) }
-        ensures logged { IfOk result (Logged (state_of D.pages D.clock D.fault_count D.story self.old) (state_of D.pages D.clock D.fault_count D.story self.new) op.now row.now) }
-        ensures fails { OnErr result (IsNotLogged (state_of D.pages D.clock D.fault_count D.story self.old) (state_of D.pages D.clock D.fault_count D.story self.new) op.now row.now) }
-        ensures ready { IsReady (state_of D.pages D.clock D.fault_count D.story self.new) }
+        requires says { (table : Table) (disk : List (List PrimRow)) → WhereTold (D.seen self.old.device).story (λ s. IsLegible table disk self.old.state.0 s → SaysOld table (next_record self.old.log op.now (old_point row.now))) }
+        ensures logged { IfOk result (Logged (state_of D.seen self.old) (state_of D.seen self.new) op.now row.now) }
+        ensures fails { OnErr result (IsNotLogged (state_of D.seen self.old) (state_of D.seen self.new) op.now row.now) }
+        ensures ready { IsReady (state_of D.seen self.new) }
     {
         match log_write(
             &mut self.device,
@@ -135,7 +135,7 @@ impl<D: Device> Store<D> {
 
     // What a delete tells where nothing stood at the key.
     fn nothing_there(&mut self) -> Wrote
-        requires ready { IsReady (state_of D.pages D.clock D.fault_count D.story self.old) }
+        requires ready { IsReady (state_of D.seen self.old) }
         ensures wrote { result ≡ record { seq = self.old.seq; old = None; ops = self.old.log.records; ack = 0 } }
         ensures rest { self.new ≡ record self.old { seq = next_count self.old.seq } }
     {
@@ -149,17 +149,17 @@ impl<D: Device> Store<D> {
 
     // Logs and answers a write of a key where this row stood.
     fn write_over(&mut self, op: &WriteOp, row: &Option<Row>) -> Result<Wrote, Refusal>
-        requires ready { IsReady (state_of D.pages D.clock D.fault_count D.story self.old) }
-        requires can { CanWrite (state_of D.pages D.clock D.fault_count D.story self.old) }
+        requires ready { IsReady (state_of D.seen self.old) }
+        requires can { CanWrite (state_of D.seen self.old) }
         requires room { 0 < self.old.acks.spare }
         requires room_in_memory { 1 ≤ self.old.state.1 }
         requires logs { has_to_log op.now (is_some row.now) ≡ true }
-        requires says { (table : Table) (disk : List (List PrimRow)) → WhereTold (D.story self.old.device) (λ s. IsLegible table disk self.old.state.0 s → SaysOld table (next_record self.old.log op.now (old_point row.now))) }
-        ensures event { (before : StoreState) (owner : ℕ) → WasRead before (state_of D.pages D.clock D.fault_count D.story self.old) (key_of op.now) row.now
-            → Makes before (state_of D.pages D.clock D.fault_count D.story self.new) owner (Action.Write op.now result) }
-        ensures logged { OnOk result (HasAppended (state_of D.pages D.clock D.fault_count D.story self.old) (state_of D.pages D.clock D.fault_count D.story self.new).device op.now row.now) }
+        requires says { (table : Table) (disk : List (List PrimRow)) → WhereTold (D.seen self.old.device).story (λ s. IsLegible table disk self.old.state.0 s → SaysOld table (next_record self.old.log op.now (old_point row.now))) }
+        ensures event { (before : StoreState) (owner : ℕ) → WasRead before (state_of D.seen self.old) (key_of op.now) row.now
+            → Makes before (state_of D.seen self.new) owner (Action.Write op.now result) }
+        ensures logged { OnOk result (HasAppended (state_of D.seen self.old) (state_of D.seen self.new).device op.now row.now) }
         ensures fault { IfErr result (λ refusal. refusal ≡ Refusal.Fault) }
-        ensures ready { IsReady (state_of D.pages D.clock D.fault_count D.story self.new) }
+        ensures ready { IsReady (state_of D.seen self.new) }
     {
         match self.log_op(op, row) {
             Ok(ack) => {
@@ -182,10 +182,10 @@ impl<D: Device> Store<D> {
     /// from what was on the disk), both before anything is written; and `Fault` where the device failed while the write was logged:
     /// the table is as before, the store is stopped, and the write may stand on the device.
     pub fn write(&mut self, owner: u64, op: &WriteOp) -> Result<Wrote, Refusal>
-        requires ready { IsReady (state_of D.pages D.clock D.fault_count D.story self.old) }
-        ensures event { Makes (state_of D.pages D.clock D.fault_count D.story self.old) (state_of D.pages D.clock D.fault_count D.story self.new) owner (Action.Write op.now result) }
-        ensures pages { TestsPages (state_of D.pages D.clock D.fault_count D.story self.old) (state_of D.pages D.clock D.fault_count D.story self.new).device result }
-        ensures ready { IsReady (state_of D.pages D.clock D.fault_count D.story self.new) }
+        requires ready { IsReady (state_of D.seen self.old) }
+        ensures event { Makes (state_of D.seen self.old) (state_of D.seen self.new) owner (Action.Write op.now result) }
+        ensures pages { TestsPages (state_of D.seen self.old) (state_of D.seen self.new).device result }
+        ensures ready { IsReady (state_of D.seen self.new) }
     {
         if let Err(refusal) = self.check_write() {
             return Err(refusal);

@@ -6,7 +6,7 @@ use Rattle.store_state.specs.EveryList.{IsLists}
 use Rattle.store_state.specs.Numbered.{IsNumbered}
 use Rattle.store_machine.specs.Machine.{Opening}
 use Rattle.store_machine.specs.Standing.{StoreState, Stands}
-use Rattle.store_machine.specs.Devices.{DeviceState}
+use Rattle.dev_model.specs.Story.{DeviceState}
 use Rattle.store_machine.specs.declared.events.Action.{Action}
 use Rattle.store_machine.specs.declared.events.Event.{Event}
 

@@ -1,15 +1,8 @@
--- What there is to see of a device, and when it holds a table.
-use Rattle.std.specs.Prelude.{ℕ, Option}
+-- When a device holds a table.
+use Rattle.std.specs.Prelude.{ℕ}
 use Rattle.dev_model.specs.Story.{Story, bytes_of, IsCalmAt}
 use Rattle.table_model.specs.Table.{Table}
 use Rattle.component_image.specs.Recovered.{IsLookedAt, IsContent, Recovers}
-
--- what there is to see of a device: three numbers, and its story where it tells one
-pub record DeviceState : Type 0 where
-  pub pages : ℕ
-  pub clock : ℕ
-  pub faults : ℕ
-  pub story : Option Story
 
 -- The device holds a store with this table: that is what is read, and what each crash leaves, where an opening looks and where the
 -- rows of components stand.

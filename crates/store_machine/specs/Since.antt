@@ -10,7 +10,8 @@ use Rattle.component_image.specs.Recovered.{IsLookedAt}
 use Rattle.primary_ix.specs.declared.rows.PrimRow.{PrimRow}
 use Rattle.store_state.specs.Held.{IsHeld}
 use Rattle.store_machine.specs.Damage.{DamagesAre}
-use Rattle.store_machine.specs.Devices.{DeviceState, HoldsTable}
+use Rattle.dev_model.specs.Story.{DeviceState}
+use Rattle.store_machine.specs.Devices.{HoldsTable}
 use Rattle.store_machine.specs.Machine.{Machine, Opening, at_opening, after_all}
 use Rattle.store_machine.specs.Runs.{IsRun}
 use Rattle.store_machine.specs.declared.events.Event.{Event}

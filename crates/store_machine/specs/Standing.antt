@@ -12,7 +12,8 @@ use Rattle.primary_ix.specs.declared.rows.PrimRow.{PrimRow}
 use Rattle.store_machine.specs.Crash.{attempted, Keeps}
 use Rattle.store_machine.specs.Damage.{DamagesAre}
 use Rattle.store_machine.specs.Outcomes.{after_groups}
-use Rattle.store_machine.specs.Devices.{DeviceState, HoldsTable}
+use Rattle.dev_model.specs.Story.{DeviceState}
+use Rattle.store_machine.specs.Devices.{HoldsTable}
 use Rattle.store_machine.specs.Machine.{Machine, Opening, at_opening, after_all}
 use Rattle.store_state.specs.Lists.{Lists}
 use Rattle.store_state.specs.Keeping.{IsKept}

@@ -6,7 +6,7 @@ ghost use Rattle.store_machine.specs.Crash.{attempted, Keeps};
 ghost use Rattle.store_machine.specs.Machine.{Opening, at_opening, after_all};
 ghost use Rattle.store_machine.specs.Calls.{Adds};
 ghost use Rattle.store_machine.specs.Standing.{StoreState, Stands, StandsSince};
-ghost use Rattle.store_machine.specs.Devices.{DeviceState};
+ghost use Rattle.dev_model.specs.Story.{DeviceState};
 ghost use Rattle.store_machine.specs.declared.events.Event.{Event};
 
 /// A law: no call adds no event, one call after another adds the events of both, and a store that stands for a list of events

@@ -90,19 +90,19 @@ fn placed_up_to(components: &[(u16, Slot)]) -> u64
 
 // Reads all that an opening looks at.
 fn read_image<D: Device>(alloc: Global, device: &mut D) -> Result<Image, OpenFault>
-    requires pages { LOG_PAGES ≤ D.pages device.old }
-    ensures read { IfOk result (λ image. WhereTold (D.story device.old) (λ s. IsCalmAt (IsLookedAt (bytes_of s)) s →
-        HasRead (D.pages device.old) s (D.story device.new) image.indexes image.slots.components.items image.slots.ignored.items image.log image.records.items)) }
+    requires pages { LOG_PAGES ≤ (D.seen device.old).pages }
+    ensures read { IfOk result (λ image. WhereTold (D.seen device.old).story (λ s. IsCalmAt (IsLookedAt (bytes_of s)) s →
+        HasRead (D.seen device.old).pages s (D.seen device.new).story image.indexes image.slots.components.items image.slots.ignored.items image.log image.records.items)) }
     ensures start { IfOk result (λ image. image.log.start ≡ LOG_START) }
     ensures counted { IfOk result (λ image. IsCounted image.log) }
-    ensures lawful { IfOk result (λ image. AreLawfulSlots (D.pages device.old) image.slots.components.items image.slots.ignored.items) }
+    ensures lawful { IfOk result (λ image. AreLawfulSlots (D.seen device.old).pages image.slots.components.items image.slots.ignored.items) }
     ensures behind { IfOk result (λ image. placed_up_to image.slots.components.items + 1 + image.log.records ≤ image.log.next_lsn) }
-    ensures refused { IfErr result (λ fault. WhereTold (D.story device.old) (λ s. IsCalmAt (IsLookedAt (bytes_of s)) s →
-        IsRefusal (D.pages device.old) fault (bytes_of s))) }
-    ensures faulted { IfErr result (HasFaulted (D.fault_count device.old) (D.fault_count device.new)) }
-    ensures later { D.fault_count device.old ≤ D.fault_count device.new }
-    ensures reads { WhereTold (D.story device.old) (λ s. ReadsWithin IsOpeningRange s (D.story device.new)) }
-    ensures same_pages { D.pages device.new ≡ D.pages device.old }
+    ensures refused { IfErr result (λ fault. WhereTold (D.seen device.old).story (λ s. IsCalmAt (IsLookedAt (bytes_of s)) s →
+        IsRefusal (D.seen device.old).pages fault (bytes_of s))) }
+    ensures faulted { IfErr result (HasFaulted (D.seen device.old).faults (D.seen device.new).faults) }
+    ensures later { (D.seen device.old).faults ≤ (D.seen device.new).faults }
+    ensures reads { WhereTold (D.seen device.old).story (λ s. ReadsWithin IsOpeningRange s (D.seen device.new).story) }
+    ensures same_pages { (D.seen device.new).pages ≡ (D.seen device.old).pages }
 {
     let indexes = match read_superblock(device) {
         Ok(indexes) => indexes,
@@ -132,30 +132,30 @@ fn read_image<D: Device>(alloc: Global, device: &mut D) -> Result<Image, OpenFau
 /// failed, which ends the opening; `OutOfMemory`. The records of the log behind the components are laid again: those of the
 /// newest segment are the active list, those before it wait for their component.
 pub fn open_state<D: Device>(alloc: Global, device: &mut D) -> Result<OpenedState, OpenFault>
-    requires least { LEAST_PAGES ≤ D.pages device.old }
-    requires most { D.pages device.old ≤ MOST_PAGES }
+    requires least { LEAST_PAGES ≤ (D.seen device.old).pages }
+    requires most { (D.seen device.old).pages ≤ MOST_PAGES }
 
     // Where the device tells, and all that an opening looks at is on the disk.
-    ensures opens { IfOk result (λ opened. WhereTold (D.story device.old) (λ s. IsCalmAt (IsLookedAt (bytes_of s)) s →
-        Opens (D.pages device.old) (bytes_of s) × (declared (bytes_of s) ≡ opened.indexes))) }
-    ensures refused { IfErr result (λ fault. WhereTold (D.story device.old) (λ s. IsCalmAt (IsLookedAt (bytes_of s)) s →
-        IsRefusal (D.pages device.old) fault (bytes_of s))) }
+    ensures opens { IfOk result (λ opened. WhereTold (D.seen device.old).story (λ s. IsCalmAt (IsLookedAt (bytes_of s)) s →
+        Opens (D.seen device.old).pages (bytes_of s) × (declared (bytes_of s) ≡ opened.indexes))) }
+    ensures refused { IfErr result (λ fault. WhereTold (D.seen device.old).story (λ s. IsCalmAt (IsLookedAt (bytes_of s)) s →
+        IsRefusal (D.seen device.old).pages fault (bytes_of s))) }
 
     // Where the components are on the disk too, the store is at rest with the table that the bytes recover to.
-    ensures kept { IfOk result (λ opened. WhereTold (D.story device.old) (λ s. IsCalmAt (IsLookedAt (bytes_of s)) s → IsCalmAt (IsContent (bytes_of s)) s →
-        (table : Table) → Recovers (D.pages device.old) table (bytes_of s) →
-        WhereTold (D.story device.new) (IsKept (D.pages device.old) opened.log table opened.state.0))) }
+    ensures kept { IfOk result (λ opened. WhereTold (D.seen device.old).story (λ s. IsCalmAt (IsLookedAt (bytes_of s)) s → IsCalmAt (IsContent (bytes_of s)) s →
+        (table : Table) → Recovers (D.seen device.old).pages table (bytes_of s) →
+        WhereTold (D.seen device.new).story (IsKept (D.seen device.old).pages opened.log table opened.state.0))) }
 
     // Of each device.
     ensures numbered { IfOk result (λ opened. IsNumbered opened.log opened.state.0) }
     ensures counted { IfOk result (λ opened. IsCounted opened.log) }
     ensures lists { IfOk result (λ opened. IsLists opened.state.0) }
-    ensures pages { IfOk result (λ opened. opened.state.0.space.pages ≡ D.pages device.old) }
+    ensures pages { IfOk result (λ opened. opened.state.0.space.pages ≡ (D.seen device.old).pages) }
     ensures no_job { IfOk result (λ opened. opened.state.0.job ≡ None) }
-    ensures faulted { IfErr result (HasFaulted (D.fault_count device.old) (D.fault_count device.new)) }
-    ensures later { D.fault_count device.old ≤ D.fault_count device.new }
-    ensures reads { WhereTold (D.story device.old) (λ s. ReadsWithin IsOpeningRange s (D.story device.new)) }
-    ensures same_pages { D.pages device.new ≡ D.pages device.old }
+    ensures faulted { IfErr result (HasFaulted (D.seen device.old).faults (D.seen device.new).faults) }
+    ensures later { (D.seen device.old).faults ≤ (D.seen device.new).faults }
+    ensures reads { WhereTold (D.seen device.old).story (λ s. ReadsWithin IsOpeningRange s (D.seen device.new).story) }
+    ensures same_pages { (D.seen device.new).pages ≡ (D.seen device.old).pages }
 {
     let image = match read_image(alloc, device) {
         Ok(image) => image,

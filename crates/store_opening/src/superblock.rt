@@ -37,15 +37,15 @@ fn indexes_of(bytes: &[u8; 16], pages: u32) -> Option<IndexSet>
 
 /// Reads the superblock: the declared indexes.
 pub(crate) fn read_superblock<D: Device>(device: &mut D) -> Result<IndexSet, OpenFault>
-    requires pages { LOG_PAGES ≤ D.pages device.old }
-    ensures formatted { IfOk result (λ set. WhereTold (D.story device.old) (λ s. IsCalmAt (IsLookedInSuperblock (bytes_of s)) s →
-        IsFormatted (D.pages device.old) (bytes_of s) × (declared (bytes_of s) ≡ set))) }
-    ensures refused { IfErr result (λ fault. WhereTold (D.story device.old) (λ s. IsCalmAt (IsLookedInSuperblock (bytes_of s)) s →
-        IsSuperblockRefusal (D.pages device.old) fault (bytes_of s))) }
-    ensures faulted { IfErr result (HasFaulted (D.fault_count device.old) (D.fault_count device.new)) }
-    ensures later { D.fault_count device.old ≤ D.fault_count device.new }
-    ensures reads { WhereTold (D.story device.old) (λ s. ReadsWithin IsOpeningRange s (D.story device.new)) }
-    ensures same_pages { D.pages device.new ≡ D.pages device.old }
+    requires pages { LOG_PAGES ≤ (D.seen device.old).pages }
+    ensures formatted { IfOk result (λ set. WhereTold (D.seen device.old).story (λ s. IsCalmAt (IsLookedInSuperblock (bytes_of s)) s →
+        IsFormatted (D.seen device.old).pages (bytes_of s) × (declared (bytes_of s) ≡ set))) }
+    ensures refused { IfErr result (λ fault. WhereTold (D.seen device.old).story (λ s. IsCalmAt (IsLookedInSuperblock (bytes_of s)) s →
+        IsSuperblockRefusal (D.seen device.old).pages fault (bytes_of s))) }
+    ensures faulted { IfErr result (HasFaulted (D.seen device.old).faults (D.seen device.new).faults) }
+    ensures later { (D.seen device.old).faults ≤ (D.seen device.new).faults }
+    ensures reads { WhereTold (D.seen device.old).story (λ s. ReadsWithin IsOpeningRange s (D.seen device.new).story) }
+    ensures same_pages { (D.seen device.new).pages ≡ (D.seen device.old).pages }
 {
     let mut bytes = [0; 16];
     match device.read(0, &mut bytes) {

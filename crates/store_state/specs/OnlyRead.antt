@@ -1,11 +1,11 @@
 -- What readers of a store's lists ask for, and what they leave behind.
 use Rattle.std.specs.Prelude.{◌≡◌, ℕ, ◌*◌, IsTrue, List, Option, Result}
 use Rattle.dev_model.specs.Moments.{LeavesOnly, ReadsWithin}
-use Rattle.dev_model.specs.Story.{Story, WhereTold, IsImageNow}
+use Rattle.dev_model.specs.Story.{DeviceState, Story, WhereTold, IsImageNow}
 use Rattle.table_model.specs.Table.{Table}
 use Rattle.wal_log.specs.declared.log.Log.{Log}
 use Rattle.dev_model.specs.Asked.{Went, reads_of}
-use Rattle.device_pages.specs.Asked.{Seen, Asked}
+use Rattle.device_pages.specs.Asked.{Asked}
 use Rattle.device_pages.specs.Claims.{MadeReads}
 use Rattle.device_pages.specs.Lent.{is_lent}
 use Rattle.dev_model.specs.declared.page_faults.PageFault.{PageFault}
@@ -25,7 +25,7 @@ pub record IsPageIn (l : Lists) (at count : ℕ) : Type 0 where
 
 -- A reader asked for these pages of the components, in one list, stopped at the first that it could not use, and did nothing
 -- else. Where the device tells, the calls that succeeded are the reads of the pages that were given.
-pub record HasRead {X : Type 0} (l : Lists) (old new : Seen) (result : Result X PageFault) (pages : List ℕ) : Type 0 where
+pub record HasRead {X : Type 0} (l : Lists) (old new : DeviceState) (result : Result X PageFault) (pages : List ℕ) : Type 0 where
   pub went : Went (is_lent (extents_of l.components)) (λ asked. Asked asked old new) result pages
   pub made : WhereTold old.story (λ s. MadeReads (reads_of result pages) s new.story)
 

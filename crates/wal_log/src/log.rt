@@ -53,32 +53,32 @@ impl Log {
         requires next { logged.now.lsn ≡ self.old.next_lsn }
         requires below { logged.now.lsn < LSN_LIMIT }
         requires has_old { HasOld logged.now.op logged.now.old_point }
-        requires pages { EndsOnDevice self.old.start (D.pages device.old) }
+        requires pages { EndsOnDevice self.old.start (D.seen device.old).pages }
         requires counted { IsCounted self.old }
 
-        ensures did { Did (append_calls self.old logged.now) (D.story device.old) (D.story device.new) result }
-        ensures ticks { Ticks 4 (D.clock device.old) (D.clock device.new) result }
-        ensures ack { IfOk result (λ ack. ack ≡ D.clock device.new) }
-        ensures within { WhereTold (D.story device.old) (λ s. WritesWithin (record_start self.old.start (newest self.old) self.old.records) 97 s (D.story device.new)) }
+        ensures did { Did (append_calls self.old logged.now) (D.seen device.old).story (D.seen device.new).story result }
+        ensures ticks { Ticks 4 (D.seen device.old).clock (D.seen device.new).clock result }
+        ensures ack { IfOk result (λ ack. ack ≡ (D.seen device.new).clock) }
+        ensures within { WhereTold (D.seen device.old).story (λ s. WritesWithin (record_start self.old.start (newest self.old) self.old.records) 97 s (D.seen device.new).story) }
 
         // Each crash at each moment of the call leaves the old segments, or these with the new record.
-        ensures any_moment { WhereTold (D.story device.old) (λ s. IsAtRest self.old s → LeavesOnly s (D.story device.new)
+        ensures any_moment { WhereTold (D.seen device.old).story (λ s. IsAtRest self.old s → LeavesOnly s (D.seen device.new).story
             (λ image. IsBeforeOrAfter (newest self.old) (record_bytes logged.now) (segments_of self.old.start (bytes_of s)) (segments_of self.old.start image))) }
-        ensures at_rest { OnOk result (WhereTold (D.story device.old) (IsAtRest self.old) → WhereTold (D.story device.new) (IsAtRest self.new)) }
-        ensures appended { OnOk result (WhereTold (D.story device.old) (λ s. IsAtRest self.old s → WhereTold (D.story device.new)
+        ensures at_rest { OnOk result (WhereTold (D.seen device.old).story (IsAtRest self.old) → WhereTold (D.seen device.new).story (IsAtRest self.new)) }
+        ensures appended { OnOk result (WhereTold (D.seen device.old).story (λ s. IsAtRest self.old s → WhereTold (D.seen device.new).story
             (λ t. segments_of self.old.start (bytes_of t) ≡ set (segments_of self.old.start (bytes_of s)) (newest self.old)
             (with_record (record_bytes logged.now) (get_or (segments_of self.old.start (bytes_of s)) (newest self.old) None))))) }
 
         // The rules hold of the log with the new record, and each image reads as the records before it, or these and the new one.
-        ensures log_of { OnOk result (WhereTold (D.story device.old) (λ s. IsAtRest self.old s → IsLogOf self.old (segments_of self.old.start (bytes_of s)) →
-            WhereTold (D.story device.new) (λ t. IsLogOf self.new (segments_of self.old.start (bytes_of t))))) }
-        ensures recovers { WhereTold (D.story device.old) (λ s. IsAtRest self.old s → IsLogOf self.old (segments_of self.old.start (bytes_of s)) →
-            (ends : List ℕ) → Opens ends (segments_of self.old.start (bytes_of s)) → LeavesOnly s (D.story device.new)
+        ensures log_of { OnOk result (WhereTold (D.seen device.old).story (λ s. IsAtRest self.old s → IsLogOf self.old (segments_of self.old.start (bytes_of s)) →
+            WhereTold (D.seen device.new).story (λ t. IsLogOf self.new (segments_of self.old.start (bytes_of t))))) }
+        ensures recovers { WhereTold (D.seen device.old).story (λ s. IsAtRest self.old s → IsLogOf self.old (segments_of self.old.start (bytes_of s)) →
+            (ends : List ℕ) → Opens ends (segments_of self.old.start (bytes_of s)) → LeavesOnly s (D.seen device.new).story
             (λ image. HasRecordsOr ends (records_of (segments_of self.old.start (bytes_of s))) logged.now (segments_of self.old.start image))) }
 
         // After `Ok` it reads as the records before it and the new one.
-        ensures logged { OnOk result (WhereTold (D.story device.old) (λ s. IsAtRest self.old s → IsLogOf self.old (segments_of self.old.start (bytes_of s)) →
-            (ends : List ℕ) → Opens ends (segments_of self.old.start (bytes_of s)) → WhereTold (D.story device.new)
+        ensures logged { OnOk result (WhereTold (D.seen device.old).story (λ s. IsAtRest self.old s → IsLogOf self.old (segments_of self.old.start (bytes_of s)) →
+            (ends : List ℕ) → Opens ends (segments_of self.old.start (bytes_of s)) → WhereTold (D.seen device.new).story
             (λ t. OpensAs ends (records_of (segments_of self.old.start (bytes_of s)) ++ logged.now ∷ []) (segments_of self.old.start (bytes_of t))))) }
         ensures width { length (record_bytes logged.now) ≡ RECORD_BYTES - 1 }
 
@@ -89,8 +89,8 @@ impl Log {
         ensures records { OnOk result (self.new.records ≡ self.old.records + 1) }
         ensures next_lsn { OnOk result (self.new.next_lsn ≡ self.old.next_lsn + 1) }
         ensures unchanged { OnErr result (self.new ≡ self.old) }
-        ensures same_pages { D.pages device.new ≡ D.pages device.old }
-        ensures cause { HasCause (D.fault_count device.old) (D.fault_count device.new) result }
+        ensures same_pages { (D.seen device.new).pages ≡ (D.seen device.old).pages }
+        ensures cause { HasCause (D.seen device.old).faults (D.seen device.new).faults result }
     {
         let gate = record_start(self.start, self.newest(), self.records);
         let spelled = with_closed_gate(logged);
@@ -105,30 +105,30 @@ impl Log {
     /// After `Failed` the log is not used again.
     pub fn next_segment<D: Device>(&mut self, device: &mut D) -> Result<(), Failed>
         requires some { 1 ≤ self.old.records }
-        requires pages { EndsOnDevice self.old.start (D.pages device.old) }
+        requires pages { EndsOnDevice self.old.start (D.seen device.old).pages }
         requires counted { IsCounted self.old }
 
-        ensures did { Did (turn_calls self.old) (D.story device.old) (D.story device.new) result }
-        ensures ticks { Ticks (close_count (get_or self.old.open_headers (following self.old) false) + 4) (D.clock device.old) (D.clock device.new) result }
-        ensures within { WhereTold (D.story device.old) (λ s. WritesWithin (segment_start self.old.start (following self.old)) SEGMENT_BYTES s (D.story device.new)) }
+        ensures did { Did (turn_calls self.old) (D.seen device.old).story (D.seen device.new).story result }
+        ensures ticks { Ticks (close_count (get_or self.old.open_headers (following self.old) false) + 4) (D.seen device.old).clock (D.seen device.new).clock result }
+        ensures within { WhereTold (D.seen device.old).story (λ s. WritesWithin (segment_start self.old.start (following self.old)) SEGMENT_BYTES s (D.seen device.new).story) }
 
         // Each crash at each moment of the call leaves the old segments, these without the next one, or these with it as a new one.
-        ensures any_moment { WhereTold (D.story device.old) (λ s. IsAtRest self.old s → LeavesOnly s (D.story device.new)
+        ensures any_moment { WhereTold (D.seen device.old).story (λ s. IsAtRest self.old s → LeavesOnly s (D.seen device.new).story
             (λ image. IsTurning (following self.old) (first_header self.old) (segments_of self.old.start (bytes_of s)) (segments_of self.old.start image))) }
-        ensures at_rest { OnOk result (WhereTold (D.story device.old) (IsAtRest self.old) → WhereTold (D.story device.new) (IsAtRest self.new)) }
-        ensures turned { OnOk result (WhereTold (D.story device.old) (λ s. IsAtRest self.old s → WhereTold (D.story device.new)
+        ensures at_rest { OnOk result (WhereTold (D.seen device.old).story (IsAtRest self.old) → WhereTold (D.seen device.new).story (IsAtRest self.new)) }
+        ensures turned { OnOk result (WhereTold (D.seen device.old).story (λ s. IsAtRest self.old s → WhereTold (D.seen device.new).story
             (λ t. segments_of self.old.start (bytes_of t) ≡ set (segments_of self.old.start (bytes_of s)) (following self.old) (Some (started_segment (first_header self.old)))))) }
 
         // The rules hold of the log afterwards, and where the indexes end right before the newest segment, each image reads the same
         // records, but for those of the segment that is used again.
-        ensures log_of { OnOk result (WhereTold (D.story device.old) (λ s. IsAtRest self.old s → IsLogOf self.old (segments_of self.old.start (bytes_of s)) →
-            WhereTold (D.story device.new) (λ t. IsLogOf self.new (segments_of self.old.start (bytes_of t))))) }
-        ensures recovers { WhereTold (D.story device.old) (λ s. IsAtRest self.old s → IsLogOf self.old (segments_of self.old.start (bytes_of s)) →
+        ensures log_of { OnOk result (WhereTold (D.seen device.old).story (λ s. IsAtRest self.old s → IsLogOf self.old (segments_of self.old.start (bytes_of s)) →
+            WhereTold (D.seen device.new).story (λ t. IsLogOf self.new (segments_of self.old.start (bytes_of t))))) }
+        ensures recovers { WhereTold (D.seen device.old).story (λ s. IsAtRest self.old s → IsLogOf self.old (segments_of self.old.start (bytes_of s)) →
             (ends : List ℕ) → All (λ last. last + 1 + self.old.records ≡ self.old.next_lsn) ends → Opens ends (segments_of self.old.start (bytes_of s)) →
-            LeavesOnly s (D.story device.new) (λ image. HasSameRecords ends (following self.old) (segments_of self.old.start (bytes_of s)) (segments_of self.old.start image))) }
+            LeavesOnly s (D.seen device.new).story (λ image. HasSameRecords ends (following self.old) (segments_of self.old.start (bytes_of s)) (segments_of self.old.start image))) }
 
         // The segment that is used again has no record behind the end of the indexes.
-        ensures later { WhereTold (D.story device.old) (λ s. IsLogOf self.old (segments_of self.old.start (bytes_of s)) → (last : ℕ) → last + 1 + self.old.records ≡ self.old.next_lsn →
+        ensures later { WhereTold (D.seen device.old).story (λ s. IsLogOf self.old (segments_of self.old.start (bytes_of s)) → (last : ℕ) → last + 1 + self.old.records ≡ self.old.next_lsn →
             later last (records_of (set (segments_of self.old.start (bytes_of s)) (following self.old) None)) ≡ later last (records_of (segments_of self.old.start (bytes_of s)))) }
 
         ensures counted { OnOk result (IsCounted self.new) }
@@ -138,8 +138,8 @@ impl Log {
         ensures records { OnOk result (self.new.records ≡ 0) }
         ensures next_lsn { self.new.next_lsn ≡ self.old.next_lsn }
         ensures unchanged { OnErr result (self.new ≡ self.old) }
-        ensures same_pages { D.pages device.new ≡ D.pages device.old }
-        ensures cause { HasCause (D.fault_count device.old) (D.fault_count device.new) result }
+        ensures same_pages { (D.seen device.new).pages ≡ (D.seen device.old).pages }
+        ensures cause { HasCause (D.seen device.old).faults (D.seen device.new).faults result }
     {
         let generation = self.generation + 1;
         let next = (generation % 4) as u8;
@@ -165,11 +165,11 @@ fn close_if_open<D: Device>(
     is_open: bool,
 ) -> Result<(), Failed>
     requires below { k < 4 }
-    requires pages { EndsOnDevice log_start (D.pages device.old) }
-    ensures did { Did (close_calls_if log_start is_open k) (D.story device.old) (D.story device.new) result }
-    ensures ticks { Ticks (close_count is_open) (D.clock device.old) (D.clock device.new) result }
-    ensures same_pages { D.pages device.new ≡ D.pages device.old }
-    ensures cause { HasCause (D.fault_count device.old) (D.fault_count device.new) result }
+    requires pages { EndsOnDevice log_start (D.seen device.old).pages }
+    ensures did { Did (close_calls_if log_start is_open k) (D.seen device.old).story (D.seen device.new).story result }
+    ensures ticks { Ticks (close_count is_open) (D.seen device.old).clock (D.seen device.new).clock result }
+    ensures same_pages { (D.seen device.new).pages ≡ (D.seen device.old).pages }
+    ensures cause { HasCause (D.seen device.old).faults (D.seen device.new).faults result }
 {
     if is_open {
         return close_header(device, log_start, k);
@@ -181,11 +181,11 @@ fn close_if_open<D: Device>(
 /// is written a crash may open it.
 fn close_header<D: Device>(device: &mut D, log_start: u64, k: u8) -> Result<(), Failed>
     requires below { k < 4 }
-    requires pages { EndsOnDevice log_start (D.pages device.old) }
-    ensures did { Did (close_calls log_start k) (D.story device.old) (D.story device.new) result }
-    ensures ticks { Ticks 2 (D.clock device.old) (D.clock device.new) result }
-    ensures same_pages { D.pages device.new ≡ D.pages device.old }
-    ensures cause { HasCause (D.fault_count device.old) (D.fault_count device.new) result }
+    requires pages { EndsOnDevice log_start (D.seen device.old).pages }
+    ensures did { Did (close_calls log_start k) (D.seen device.old).story (D.seen device.new).story result }
+    ensures ticks { Ticks 2 (D.seen device.old).clock (D.seen device.new).clock result }
+    ensures same_pages { (D.seen device.new).pages ≡ (D.seen device.old).pages }
+    ensures cause { HasCause (D.seen device.old).faults (D.seen device.new).faults result }
 {
     write_synced(device, segment_start(log_start, k), &[0])?;
     Ok(())
@@ -201,11 +201,11 @@ pub fn start_segment<D: Device>(
     first_lsn: u64,
 ) -> Result<(), Failed>
     requires below { k < 4 }
-    requires pages { EndsOnDevice log_start (D.pages device.old) }
-    ensures did { Did (start_calls log_start k generation first_lsn) (D.story device.old) (D.story device.new) result }
-    ensures ticks { Ticks 4 (D.clock device.old) (D.clock device.new) result }
-    ensures same_pages { D.pages device.new ≡ D.pages device.old }
-    ensures cause { HasCause (D.fault_count device.old) (D.fault_count device.new) result }
+    requires pages { EndsOnDevice log_start (D.seen device.old).pages }
+    ensures did { Did (start_calls log_start k generation first_lsn) (D.seen device.old).story (D.seen device.new).story result }
+    ensures ticks { Ticks 4 (D.seen device.old).clock (D.seen device.new).clock result }
+    ensures same_pages { (D.seen device.new).pages ≡ (D.seen device.old).pages }
+    ensures cause { HasCause (D.seen device.old).faults (D.seen device.new).faults result }
 {
     let spelled = header_with_closed_gate(generation, first_lsn);
     let start = segment_start(log_start, k);

@@ -25,23 +25,23 @@ impl Log {
         ends: &[u64],
         alloc: Global,
     ) -> Result<(Log, Vec<Record>), LogFault>
-        requires pages { EndsOnDevice log_start (D.pages device.old) }
+        requires pages { EndsOnDevice log_start (D.seen device.old).pages }
         requires some { 1 ≤ length ends.now }
         requires below { All (λ last. last < LSN_LIMIT) ends.now }
-        ensures opens { IfOk result (λ read. WhereTold (D.story device.old) (λ s. IsStill log_start s → Opens ends.now (segments_of log_start (bytes_of s)))) }
-        ensures records { IfOk result (λ read. WhereTold (D.story device.old) (λ s. IsStill log_start s → read.1.items ≡ records_of (segments_of log_start (bytes_of s)))) }
+        ensures opens { IfOk result (λ read. WhereTold (D.seen device.old).story (λ s. IsStill log_start s → Opens ends.now (segments_of log_start (bytes_of s)))) }
+        ensures records { IfOk result (λ read. WhereTold (D.seen device.old).story (λ s. IsStill log_start s → read.1.items ≡ records_of (segments_of log_start (bytes_of s)))) }
         ensures start { IfOk result (λ read. read.0.start ≡ log_start) }
         ensures counted { IfOk result (λ read. IsCounted read.0) }
 
         // No index ends behind the first record of the newest segment.
         ensures behind { IfOk result (λ read. All (λ last. last + 1 + read.0.records ≤ read.0.next_lsn) ends.now) }
-        ensures log_of { IfOk result (λ read. WhereTold (D.story device.old) (λ s. IsStill log_start s → IsLogOf read.0 (segments_of log_start (bytes_of s)))) }
-        ensures at_rest { IfOk result (λ read. WhereTold (D.story device.old) (λ s. IsStill log_start s → WhereTold (D.story device.new) (IsAtRest read.0))) }
+        ensures log_of { IfOk result (λ read. WhereTold (D.seen device.old).story (λ s. IsStill log_start s → IsLogOf read.0 (segments_of log_start (bytes_of s)))) }
+        ensures at_rest { IfOk result (λ read. WhereTold (D.seen device.old).story (λ s. IsStill log_start s → WhereTold (D.seen device.new).story (IsAtRest read.0))) }
         ensures bad { IfErr result (λ fault. WhereBad fault (λ number.
-            WhereTold (D.story device.old) (λ s. IsStill log_start s → IsBad ends.now (segments_of log_start (bytes_of s)) number))) }
-        ensures reads { WhereTold (D.story device.old) (λ s. ReadsLog log_start s (D.story device.new)) }
-        ensures same_pages { D.pages device.new ≡ D.pages device.old }
-        ensures cause { HasCauseOfFault (D.fault_count device.old) (D.fault_count device.new) result }
+            WhereTold (D.seen device.old).story (λ s. IsStill log_start s → IsBad ends.now (segments_of log_start (bytes_of s)) number))) }
+        ensures reads { WhereTold (D.seen device.old).story (λ s. ReadsLog log_start s (D.seen device.new).story) }
+        ensures same_pages { (D.seen device.new).pages ≡ (D.seen device.old).pages }
+        ensures cause { HasCauseOfFault (D.seen device.old).faults (D.seen device.new).faults result }
     {
         match read_segments(device, log_start, ends, alloc) {
             Ok(read) => {

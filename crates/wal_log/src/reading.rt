@@ -49,13 +49,13 @@ fn fill_window<D: Device>(
 ) -> Result<(), Failed>
     requires below { segment < 4 }
     requires place { place ≤ MOST_RECORDS }
-    requires pages { EndsOnDevice log_start (D.pages device.old) }
+    requires pages { EndsOnDevice log_start (D.seen device.old).pages }
     requires width { length window.old ≡ WINDOW_BYTES }
-    ensures here { OnOk result (WhereTold (D.story device.old) (λ s. HoldsPlaces log_start segment place window.old s → IsReadFrom (window_start log_start segment place) window.new s)) }
-    ensures holds { OnOk result (WhereTold (D.story device.old) (HoldsPlaces log_start segment place window.old) → WhereTold (D.story device.new) (IsReadFrom (window_start log_start segment place) window.new)) }
-    ensures reads { WhereTold (D.story device.old) (λ s. ReadsLog log_start s (D.story device.new)) }
-    ensures same_pages { D.pages device.new ≡ D.pages device.old }
-    ensures cause { HasCause (D.fault_count device.old) (D.fault_count device.new) result }
+    ensures here { OnOk result (WhereTold (D.seen device.old).story (λ s. HoldsPlaces log_start segment place window.old s → IsReadFrom (window_start log_start segment place) window.new s)) }
+    ensures holds { OnOk result (WhereTold (D.seen device.old).story (HoldsPlaces log_start segment place window.old) → WhereTold (D.seen device.new).story (IsReadFrom (window_start log_start segment place) window.new)) }
+    ensures reads { WhereTold (D.seen device.old).story (λ s. ReadsLog log_start s (D.seen device.new).story) }
+    ensures same_pages { (D.seen device.new).pages ≡ (D.seen device.old).pages }
+    ensures cause { HasCause (D.seen device.old).faults (D.seen device.new).faults result }
 {
     if place % WINDOW_RECORDS != 0 {
         return Ok(());
@@ -95,14 +95,14 @@ fn read_place<D: Device>(
 ) -> Result<Found, Failed>
     requires below { segment < 4 }
     requires place { place ≤ MOST_RECORDS }
-    requires pages { EndsOnDevice log_start (D.pages device.old) }
+    requires pages { EndsOnDevice log_start (D.seen device.old).pages }
     requires width { length window.old ≡ WINDOW_BYTES }
-    ensures found { IfOk result (λ found. WhereTold (D.story device.old) (λ s. HoldsPlaces log_start segment place window.old s → IsPlaceStill (record_start log_start segment place) s → IsFound (record_start log_start segment place) (first_lsn + place) (bytes_of s) found)) }
-    ensures holds { OnOk result (WhereTold (D.story device.old) (HoldsPlaces log_start segment place window.old) → WhereTold (D.story device.new) (HoldsPlaces log_start segment (place + 1) window.new)) }
+    ensures found { IfOk result (λ found. WhereTold (D.seen device.old).story (λ s. HoldsPlaces log_start segment place window.old s → IsPlaceStill (record_start log_start segment place) s → IsFound (record_start log_start segment place) (first_lsn + place) (bytes_of s) found)) }
+    ensures holds { OnOk result (WhereTold (D.seen device.old).story (HoldsPlaces log_start segment place window.old) → WhereTold (D.seen device.new).story (HoldsPlaces log_start segment (place + 1) window.new)) }
     ensures number { IfOk result (HasNumber (first_lsn + place)) }
-    ensures reads { WhereTold (D.story device.old) (λ s. ReadsLog log_start s (D.story device.new)) }
-    ensures same_pages { D.pages device.new ≡ D.pages device.old }
-    ensures cause { HasCause (D.fault_count device.old) (D.fault_count device.new) result }
+    ensures reads { WhereTold (D.seen device.old).story (λ s. ReadsLog log_start s (D.seen device.new).story) }
+    ensures same_pages { (D.seen device.new).pages ≡ (D.seen device.old).pages }
+    ensures cause { HasCause (D.seen device.old).faults (D.seen device.new).faults result }
 {
     fill_window(device, log_start, segment, place, window)?;
     Ok(find_place(window, place, first_lsn))
@@ -117,15 +117,15 @@ pub fn read_records<D: Device>(
     records: &mut Vec<Record>,
 ) -> Result<u64, LogFault>
     requires below { segment < 4 }
-    requires pages { EndsOnDevice log_start (D.pages device.old) }
-    ensures read { IfOk result (λ count. WhereTold (D.story device.old) (λ s. IsOpenStill log_start segment s →
+    requires pages { EndsOnDevice log_start (D.seen device.old).pages }
+    ensures read { IfOk result (λ count. WhereTold (D.seen device.old).story (λ s. IsOpenStill log_start segment s →
         HasReadAll first_lsn count (segment_records log_start segment (bytes_of s)) records.old.items records.new.items)) }
     ensures few { IfOk result (AreFew first_lsn) }
     ensures bad { IfErr result (λ fault. WhereBad fault (λ number.
-        (number ≡ segment) × WhereTold (D.story device.old) (λ s. IsOpenStill log_start segment s → HasRecords first_lsn (segment_records log_start segment (bytes_of s)) → ⊥))) }
-    ensures reads { WhereTold (D.story device.old) (λ s. ReadsLog log_start s (D.story device.new)) }
-    ensures same_pages { D.pages device.new ≡ D.pages device.old }
-    ensures cause { HasCauseOfFault (D.fault_count device.old) (D.fault_count device.new) result }
+        (number ≡ segment) × WhereTold (D.seen device.old).story (λ s. IsOpenStill log_start segment s → HasRecords first_lsn (segment_records log_start segment (bytes_of s)) → ⊥))) }
+    ensures reads { WhereTold (D.seen device.old).story (λ s. ReadsLog log_start s (D.seen device.new).story) }
+    ensures same_pages { (D.seen device.new).pages ≡ (D.seen device.old).pages }
+    ensures cause { HasCauseOfFault (D.seen device.old).faults (D.seen device.new).faults result }
 {
     let mut window = [0; WINDOW_BYTES];
     for place in 0..MOST_RECORDS + 1 {

@@ -109,15 +109,15 @@ fn read_segment<D: Device>(
     head: &Head,
     records: &mut Vec<Record>,
 ) -> Result<Ended, LogFault>
-    requires pages { EndsOnDevice log_start (D.pages device.old) }
-    ensures read { IfOk result (λ ended. WhereTold (D.story device.old) (λ s. IsOpenStill log_start head.now.number s →
+    requires pages { EndsOnDevice log_start (D.seen device.old).pages }
+    ensures read { IfOk result (λ ended. WhereTold (D.seen device.old).story (λ s. IsOpenStill log_start head.now.number s →
         HasReadSegment log_start (bytes_of s) before head.now records.old.items ended records.new.items)) }
     ensures ended { IfOk result (IsEndOf before head.now) }
     ensures bad { IfErr result (λ fault. WhereBad fault (λ number.
-        (number ≡ head.now.number) × WhereTold (D.story device.old) (λ s. IsOpenStill log_start head.now.number s → IsUnsound log_start (bytes_of s) before head.now))) }
-    ensures reads { WhereTold (D.story device.old) (λ s. ReadsLog log_start s (D.story device.new)) }
-    ensures same_pages { D.pages device.new ≡ D.pages device.old }
-    ensures cause { HasCauseOfFault (D.fault_count device.old) (D.fault_count device.new) result }
+        (number ≡ head.now.number) × WhereTold (D.seen device.old).story (λ s. IsOpenStill log_start head.now.number s → IsUnsound log_start (bytes_of s) before head.now))) }
+    ensures reads { WhereTold (D.seen device.old).story (λ s. ReadsLog log_start s (D.seen device.new).story) }
+    ensures same_pages { (D.seen device.new).pages ≡ (D.seen device.old).pages }
+    ensures cause { HasCauseOfFault (D.seen device.old).faults (D.seen device.new).faults result }
 {
     if !starts_after(before, head) {
         return Err(LogFault::BadLog(head.number));
@@ -141,21 +141,21 @@ pub fn read_segments<D: Device>(
     ends: &[u64],
     alloc: Global,
 ) -> Result<Gathered, LogFault>
-    requires pages { EndsOnDevice log_start (D.pages device.old) }
+    requires pages { EndsOnDevice log_start (D.seen device.old).pages }
     requires some { 1 ≤ length ends.now }
     requires below { All (λ last. last < LSN_LIMIT) ends.now }
-    ensures opens { IfOk result (λ read. WhereTold (D.story device.old) (λ s. IsStill log_start s → Opens ends.now (segments_of log_start (bytes_of s)))) }
-    ensures records { IfOk result (λ read. WhereTold (D.story device.old) (λ s. IsStill log_start s → read.records.items ≡ records_of (segments_of log_start (bytes_of s)))) }
+    ensures opens { IfOk result (λ read. WhereTold (D.seen device.old).story (λ s. IsStill log_start s → Opens ends.now (segments_of log_start (bytes_of s)))) }
+    ensures records { IfOk result (λ read. WhereTold (D.seen device.old).story (λ s. IsStill log_start s → read.records.items ≡ records_of (segments_of log_start (bytes_of s)))) }
     ensures counted { IfOk result (λ read. IsCountedEnd read.ended) }
     ensures behind { IfOk result (λ read. All (λ last. last + 1 ≤ read.ended.first_lsn) ends.now) }
-    ensures newest { IfOk result (λ read. WhereTold (D.story device.old) (λ s. IsStill log_start s → IsNewest log_start (bytes_of s) read.ended)) }
-    ensures told { IfOk result (λ read. WhereTold (D.story device.old) (λ s. IsStill log_start s →
+    ensures newest { IfOk result (λ read. WhereTold (D.seen device.old).story (λ s. IsStill log_start s → IsNewest log_start (bytes_of s) read.ended)) }
+    ensures told { IfOk result (λ read. WhereTold (D.seen device.old).story (λ s. IsStill log_start s →
         (k : ℕ) → k < 4 → get_or read.open_headers k false ≡ (bytes_of s (segment_start log_start k) == OPEN))) }
     ensures bad { IfErr result (λ fault. WhereBad fault (λ number.
-        WhereTold (D.story device.old) (λ s. IsStill log_start s → IsBad ends.now (segments_of log_start (bytes_of s)) number))) }
-    ensures reads { WhereTold (D.story device.old) (λ s. ReadsLog log_start s (D.story device.new)) }
-    ensures same_pages { D.pages device.new ≡ D.pages device.old }
-    ensures cause { HasCauseOfFault (D.fault_count device.old) (D.fault_count device.new) result }
+        WhereTold (D.seen device.old).story (λ s. IsStill log_start s → IsBad ends.now (segments_of log_start (bytes_of s)) number))) }
+    ensures reads { WhereTold (D.seen device.old).story (λ s. ReadsLog log_start s (D.seen device.new).story) }
+    ensures same_pages { (D.seen device.new).pages ≡ (D.seen device.old).pages }
+    ensures cause { HasCauseOfFault (D.seen device.old).faults (D.seen device.new).faults result }
 {
     let heads = match read_heads(device, log_start, alloc) {
         Ok(heads) => heads,

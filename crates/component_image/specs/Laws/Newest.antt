@@ -1,10 +1,10 @@
 -- The newest component of an index ends behind each of its open slots, live or ignored. No public contract needs these laws.
-use Rattle.std.proofs.Common.{◌≡◌, ℕ, All, zero, suc, ◌+◌, ◌-◌, ◌<◌, ◌≤◌, ◌==◌, List, [], ◌∷◌, Bool, true, false, ◌||◌, ◌&&◌, not, if◌then◌else◌, nat_le, refl, sym, ◌∙◌, ap, subst, arith}
+use Rattle.std.proofs.Common.{◌≡◌, ℕ, All, zero, suc, ◌+◌, ◌-◌, ◌<◌, ◌≤◌, ◌==◌, List, [], ◌∷◌, Bool, true, false, ◌||◌, not, if◌then◌else◌, nat_le, refl, sym, ◌∙◌, ap, arith}
 use Rattle.std.proofs.lemmas.Bool.Decides.{nat_tests}
 use Rattle.std.proofs.lemmas.List.Elements.{All-nil, All-cons}
 use Rattle.std.specs.List.{filter, list_any}
 use Rattle.comp_dir.specs.Directory.{Directory, Numbered, open_slots}
-use Rattle.comp_dir.specs.Choosing.{is_equal, is_hidden_by, is_inside, is_live, live_slots, same_index, Opens as DirectoryOpens}
+use Rattle.comp_dir.specs.Choosing.{is_hidden_by, is_live, live_slots, Opens as DirectoryOpens}
 use Rattle.comp_dir.specs.declared.places.TheConstants.{LSN_LIMIT}
 use Rattle.comp_dir.specs.declared.slots.Slot.{Slot}
 use Rattle.component_image.specs.Components.{placed, newest_first, components, end_of}

@@ -1,5 +1,5 @@
 -- Laws of images, and of what is settled. No public contract needs them.
-use Rattle.std.proofs.Common.{◌≡◌, inr, ℕ, ◌+◌, ◌<◌, ◌≤◌, [], ◌∷◌, length, refl, sym, subst, arith, suc}
+use Rattle.std.proofs.Common.{List, ◌≡◌, inr, ℕ, ◌+◌, ◌<◌, ◌≤◌, [], ◌∷◌, length, refl, sym, subst, arith, suc}
 use Rattle.std.specs.Ordering.{MatchOrdering}
 use Rattle.std.specs.Cmp.{nat_cmp_is}
 use Rattle.std.specs.declared.cmp.Ordering.{Ordering}
@@ -18,7 +18,7 @@ IsImage-during s call image is =
     subst (λ (o : Ordering). MatchOrdering o (IsImage s (clock_of s) image) (IsImageDuring s call image) (IsImageNow (with_call s call) image)) (sym (nat_cmp_is (clock_of s) (clock_of s) Equal refl)) is
 
 -- at the present moment no call is under way
-now_at : (start : Bytes) (calls : Calls) (image : Bytes) → IsImageAt start calls (length calls) image → IsImageNow (record { start = start; past = calls }) image
+now_at : (start : List ℕ) (calls : Calls) (image : Bytes) → IsImageAt start calls (length calls) image → IsImageNow (record { start = start; past = calls }) image
 now_at start [] image is = is
 now_at start (call ∷ calls) image is =
     let s : Story = record { start = start; past = calls } in
@@ -51,7 +51,7 @@ IsReadable-settled (FailedCall ∷ calls) i settled = IsReadable-settled calls i
 pub IsImage-at_now : (s : Story) (image : Bytes) → IsImageNow s image → IsImage s (clock_of s) image
 IsImage-at_now s image is = at_now s.start s.past image is
   where
-    at_now : (start : Bytes) (past : Past) (image : Bytes) → IsImageNow (record { start = start; past = past }) image → IsImageAt start past (length past) image
+    at_now : (start : List ℕ) (past : Past) (image : Bytes) → IsImageNow (record { start = start; past = past }) image → IsImageAt start past (length past) image
     at_now start [] image is = is
     at_now start (call ∷ past) image is =
         let s : Story = record { start = start; past = past } in

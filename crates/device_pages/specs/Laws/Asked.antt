@@ -2,7 +2,7 @@
 use Rattle.std.proofs.Common.{◌≡◌, ℕ, suc, ◌+◌, ◌-◌, ◌*◌, ◌^◌, Bool, true, false, List, [], ◌∷◌, ◌++◌, length, Option, Some, None, refl, sym, ◌∙◌, ap, arith}
 use Rattle.std.specs.Prelude.{nat_lt, if◌then◌else◌, map, All}
 use Rattle.space_map.specs.declared.space.Extent.{Extent}
-use Rattle.dev_model.specs.Story.{Call, Read, Write, Sync, FailedWrite, FailedCall, Calls, Story, after}
+use Rattle.dev_model.specs.Story.{DeviceState, Call, Read, Write, Sync, FailedWrite, FailedCall, Calls, Story, after}
 use Rattle.dev_model.specs.Doing.{noted, all_noted}
 use Rattle.dev_model.specs.Moments.{AreReadsWithin, ReadsWithin}
 use Rattle.dev_model.specs.DeviceCalls.{made_at, ok_calls}
@@ -10,12 +10,12 @@ use Rattle.dev_model.specs.declared.calls.DeviceCall.{DeviceCall}
 use Rattle.dev_model.specs.declared.calls.DeviceAct.TheVariants.{ReadAt}
 use Rattle.dev_model.specs.Laws.Plans.{all_noted-told}
 use Rattle.device_pages.specs.declared.lending.TheConstants.{PAGE_BYTES}
-use Rattle.device_pages.specs.Asked.{Seen, Asked, calls_of, read_of, pages_of}
+use Rattle.device_pages.specs.Asked.{Asked, calls_of, read_of, pages_of}
 use Rattle.device_pages.specs.ReadsMade.{reads_made}
 use Rattle.device_pages.specs.Lending.{contents_of}
 
 -- nothing was asked for
-pub asked-none : (s : Seen) → Asked [] s s
+pub asked-none : (s : DeviceState) → Asked [] s s
 asked-none s = record { same_pages = refl; clock = omega arith; told = refl }
 
 -- the calls of a first list of pages, and then of another one
@@ -48,7 +48,7 @@ length-append [] second = omega arith
 length-append (call ∷ first) second = omega (arith, length-append first second)
 
 -- what was asked for, and then more
-pub asked-then : (s t u : Seen) (first second : List (ℕ × Bool)) → Asked first s t → Asked second t u → Asked (first ++ second) s u
+pub asked-then : (s t u : DeviceState) (first second : List (ℕ × Bool)) → Asked first s t → Asked second t u → Asked (first ++ second) s u
 asked-then s t u first second before more =
     let calls : Calls = calls_of s.clock first in
     let later : calls_of t.clock second ≡ calls_of (s.clock + length calls) second = ap (λ (n : ℕ). calls_of n second) before.clock in
@@ -74,7 +74,7 @@ length-given : (clock : ℕ) (pages : List ℕ) → length (calls_of clock (map 
 length-given clock [] = refl
 length-given clock (page ∷ pages) = ap suc (length-given (clock + 1) pages)
 
-pub clock-given : (pages : List ℕ) (old new : Seen) → Asked (map (λ page. (page, true)) pages) old new → new.clock ≡ old.clock + length pages
+pub clock-given : (pages : List ℕ) (old new : DeviceState) → Asked (map (λ page. (page, true)) pages) old new → new.clock ≡ old.clock + length pages
 clock-given pages old new asked = asked.clock ∙ ap (λ (n : ℕ). old.clock + n) (length-given old.clock pages)
 
 -- the calls that succeeded are the reads of the pages that were given
@@ -102,10 +102,10 @@ are_reads-asked Within clock ((page, false) ∷ asked) each =
     by_clock false more none = none
 
 -- what the story of a device that tells has of it
-pub story-asked : (asked : List (ℕ × Bool)) (old new : Seen) (s : Story) → Asked asked old new → old.story ≡ Some s → new.story ≡ Some (after s (calls_of old.clock asked))
+pub story-asked : (asked : List (ℕ × Bool)) (old new : DeviceState) (s : Story) → Asked asked old new → old.story ≡ Some s → new.story ≡ Some (after s (calls_of old.clock asked))
 story-asked asked old new s went told = went.told ∙ all_noted-told s (calls_of old.clock asked) old.story told
 
-pub ReadsWithin-asked : (Within : ℕ → ℕ → Type 0) (asked : List (ℕ × Bool)) (old new : Seen) (s : Story) → Asked asked old new → old.story ≡ Some s
+pub ReadsWithin-asked : (Within : ℕ → ℕ → Type 0) (asked : List (ℕ × Bool)) (old new : DeviceState) (s : Story) → Asked asked old new → old.story ≡ Some s
     → All (λ page. Within (page * PAGE_BYTES) PAGE_BYTES) (pages_of asked) → ReadsWithin Within s new.story
 ReadsWithin-asked Within asked old new s went told each = record {
   calls = calls_of old.clock asked;
@@ -114,7 +114,7 @@ ReadsWithin-asked Within asked old new s went told each = record {
 }
 
 -- asking leaves what the lent pages hold
-pub contents-asked : (extents : List Extent) (asked : List (ℕ × Bool)) (old new : Seen) → Asked asked old new → contents_of extents new.story ≡ contents_of extents old.story
+pub contents-asked : (extents : List Extent) (asked : List (ℕ × Bool)) (old new : DeviceState) → Asked asked old new → contents_of extents new.story ≡ contents_of extents old.story
 contents-asked extents asked old new went =
     ap (contents_of extents) went.told
     ∙ noted_reads (calls_of old.clock asked) old.story (are_reads-asked (λ _ _. Unit {0}) old.clock asked (λ k d h. tt))

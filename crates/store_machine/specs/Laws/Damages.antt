@@ -13,7 +13,7 @@ use Rattle.store_state.specs.Laws.ReadingPages.{lent-inside}
 use Rattle.primary_ix.specs.Damage.{IsDamagedIn}
 use Rattle.store_state.specs.Lists.{Lists, extents_of, trees_of}
 use Rattle.store_machine.specs.Damage.{damaged_page, WasDamaged, DamagesAre}
-use Rattle.store_machine.specs.Devices.{DeviceState}
+use Rattle.dev_model.specs.Story.{DeviceState}
 use Rattle.store_machine.specs.Laws.LogCalls.{IsPlan, failed-by}
 use Rattle.store_machine.specs.Machine.{Machine, after_event, after_all}
 use Rattle.store_machine.specs.Standing.{StoreState, Has}

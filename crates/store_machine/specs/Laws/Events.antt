@@ -28,7 +28,7 @@ use Rattle.store_machine.specs.Machine.{is_logged, Machine, Opening, does, group
 use Rattle.store_machine.specs.Needs.{place_in, Needs}
 use Rattle.store_machine.specs.Calls.{Makes}
 use Rattle.store_machine.specs.Standing.{StoreState, Has, Tells}
-use Rattle.store_machine.specs.Devices.{DeviceState}
+use Rattle.dev_model.specs.Story.{DeviceState}
 use Rattle.store_machine.specs.declared.events.Wrote.{Wrote}
 use Rattle.store_machine.specs.declared.events.Refusal.TheVariants.{Fault}
 use Rattle.store_state.specs.Lists.{Lists}

@@ -30,7 +30,7 @@ use Rattle.store_machine.specs.Laws.LogCalls.{StoppedBy}
 use Rattle.store_machine.specs.Outcomes.{Group, after_groups}
 use Rattle.store_machine.specs.Machine.{Machine, Opening, after_logged, after_answer, log_with_record}
 use Rattle.store_machine.specs.Standing.{AreUpTo, StoreState, Begins, Has, Tells}
-use Rattle.store_machine.specs.Devices.{DeviceState}
+use Rattle.dev_model.specs.Story.{DeviceState}
 use Rattle.store_state.specs.Lists.{Lists}
 use Rattle.store_state.specs.Steps.{added}
 use Rattle.store_state.specs.Keeping.{IsKept}

@@ -16,7 +16,7 @@ use Rattle.component_image.specs.Resting.{Rests}
 use Rattle.component_image.specs.Laws.Keeping.{rest-image}
 use Rattle.primary_ix.specs.declared.rows.PrimRow.{PrimRow}
 use Rattle.store_machine.specs.Standing.{StoreState, Stands, StandsSince}
-use Rattle.store_machine.specs.Devices.{DeviceState}
+use Rattle.dev_model.specs.Story.{DeviceState}
 use Rattle.store_state.specs.Lists.{Lists}
 use Rattle.store_state.specs.Keeping.{IsKept}
 use Rattle.store_state.specs.Laws.ReadingStays.{kept-legible}

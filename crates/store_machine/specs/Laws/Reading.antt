@@ -13,7 +13,7 @@ use Rattle.dev_model.specs.declared.page_faults.PageFault.TheVariants.{Failed, D
 use Rattle.table_model.specs.Table.{Table}
 use Rattle.dev_model.specs.Asked.{GoesBy, given_but_last, reads_of}
 use Rattle.dev_model.specs.Given.{given}
-use Rattle.device_pages.specs.Asked.{Asked, Seen, calls_of}
+use Rattle.device_pages.specs.Asked.{Asked, calls_of}
 use Rattle.device_pages.specs.ReadsMade.{reads_made}
 use Rattle.device_pages.specs.Claims.{MadeReads}
 use Rattle.device_pages.specs.Laws.Asked.{clock-given, contents-asked}
@@ -30,16 +30,12 @@ use Rattle.store_machine.specs.Laws.Damages.{HasGoneOn, IsCause, gone-noted}
 use Rattle.store_machine.specs.Outcomes.{Group}
 use Rattle.store_machine.specs.Machine.{Machine, Opening}
 use Rattle.store_machine.specs.Standing.{AreUpTo, StoreState, Has, Tells}
-use Rattle.store_machine.specs.Devices.{DeviceState}
+use Rattle.dev_model.specs.Story.{DeviceState}
 use Rattle.store_state.specs.Reading.{IsLegible}
 use Rattle.store_state.specs.OnlyRead.{HasRead, IsOnlyRead, IsPageIn}
 use Rattle.store_state.specs.Laws.ReadingStays.{moments-reads}
 use Rattle.store_machine.specs.Runs.{Way, IsAllOf, IsFirstOf, IsFrontUpTo, StopsBefore, AreReads, TakesTime}
 use Rattle.store_machine.specs.Laws.Steps.{GoesOn}
-
--- what a reader sees of a device
-abbrev pub seen_of : DeviceState → Seen
-seen_of device = record { pages = device.pages; clock = device.clock; story = device.story }
 
 -- what was acknowledged by a moment behind all acks is so later
 keeps-later : (pages : ℕ) (table : Table) (groups : List Group) (acks : List ℕ) (clock m : ℕ) (image : Bytes) → AreUpTo clock acks → clock ≤ m → Keeps pages table groups acks clock image → Keeps pages table groups acks m image
@@ -54,7 +50,7 @@ GoesOnWay old way result pages =
 
 -- what a call that reads pages of the components on a way shows of the device
 pub record HasOnlyRead {X : Type 0} (old : StoreState) (now : DeviceState) (way : Lists → Way) (result : Result X PageFault) (pages : List ℕ) : Type 0 where
-  pub read : HasRead old.lists (seen_of old.device) (seen_of now) result pages
+  pub read : HasRead old.lists old.device now result pages
   pub by : GoesOnWay old way result pages
   pub stays : WhereTold old.device.story (λ s. IsOnlyRead old.device.pages old.lists s now.story)
   pub same_pages : now.pages ≡ old.device.pages
@@ -96,17 +92,17 @@ failed-time clock [] page = by_test (nat_lt clock (2 ^ 64 - 1))
     by_test false = (omega arith, omega arith)
 failed-time clock (first ∷ before) page = let rest : _ = failed-time (clock + 1) before page in (omega (arith, rest.0), omega (arith, rest.1))
 
-given-time : (old new : Seen) (pages : List ℕ) → Asked (given pages) old new → TakesTime false old.clock (reads_made old.clock (given pages)) new.clock
+given-time : (old new : DeviceState) (pages : List ℕ) → Asked (given pages) old new → TakesTime false old.clock (reads_made old.clock (given pages)) new.clock
 given-time old new pages asked = omega (arith, clock-given pages old new asked, given-made old.clock pages)
 
-failed-taken : (old new : Seen) (before : List ℕ) (page : ℕ) → Asked (given before ++ (page, false) ∷ []) old new → TakesTime true old.clock (reads_made old.clock (given before ++ (page, false) ∷ [])) new.clock
+failed-taken : (old new : DeviceState) (before : List ℕ) (page : ℕ) → Asked (given before ++ (page, false) ∷ []) old new → TakesTime true old.clock (reads_made old.clock (given before ++ (page, false) ∷ [])) new.clock
 failed-taken old new before page asked =
     let time : _ = failed-time old.clock before page in
     let count : length (reads_made old.clock (given before)) ≡ length before = given-made old.clock before in
     subst (λ (calls : List DeviceCall). TakesTime true old.clock calls new.clock) (sym (failed-made old.clock before page)) (omega (arith, time.0, count, asked.clock), omega (arith, time.1, count, asked.clock))
 
 -- how long the device calls of a reader took, by whether a read failed
-went-time : {X : Type 0} (l : Lists) (old new : Seen) (result : Result X PageFault) (pages : List ℕ) → HasRead l old new result pages → TakesTime (is_failed result) old.clock (reads_made old.clock (reads_of result pages)) new.clock
+went-time : {X : Type 0} (l : Lists) (old new : DeviceState) (result : Result X PageFault) (pages : List ℕ) → HasRead l old new result pages → TakesTime (is_failed result) old.clock (reads_made old.clock (reads_of result pages)) new.clock
 went-time l old new (Ok x) pages read = given-time old new pages read.went.asked_for
 went-time l old new (Err (Damaged page)) pages read = given-time old new pages read.went.asked_for
 went-time l old new (Err OutOfMemory) pages read = given-time old new pages read.went.asked_for
@@ -120,7 +116,7 @@ went-time l old new (Err Failed) pages read =
 pub reads-time : {X : Type 0} (old : StoreState) (now : DeviceState) (way : Lists → Way) (result : Result X PageFault) (pages : List ℕ) (m : Machine) → HasOnlyRead old now way result pages → Has old m
     → TakesTime (is_failed result) m.clock (read_calls old result pages) now.clock
 reads-time old now way result pages m reads has =
-    subst (λ (clock : ℕ). TakesTime (is_failed result) clock (read_calls old result pages) now.clock) has.clock (went-time old.lists (seen_of old.device) (seen_of now) result pages reads.read)
+    subst (λ (clock : ℕ). TakesTime (is_failed result) clock (read_calls old result pages) now.clock) has.clock (went-time old.lists old.device now result pages reads.read)
 
 -- which pages were read on the way, by the answer of the reader
 abbrev pub IsPartBy : {X : Type 0} → Result X PageFault → List ℕ → List ℕ → Type 0
@@ -151,7 +147,7 @@ pub record WereGiven {X : Type 0} (l : Lists) (way : Lists → Way) (clock : ℕ
   pub are : reads_made clock (reads_of result pages) ≡ reads_made clock (given given_pages)
   pub part : (roots : List ℕ) → AreRoots (trees_of l.components) roots → IsPartBy result given_pages (way l disk roots)
 
-were-given : {X : Type 0} (l : Lists) (way : Lists → Way) (old new : Seen) (disk : List (List PrimRow)) (result : Result X PageFault) (pages : List ℕ) → HasRead l old new result pages
+were-given : {X : Type 0} (l : Lists) (way : Lists → Way) (old new : DeviceState) (disk : List (List PrimRow)) (result : Result X PageFault) (pages : List ℕ) → HasRead l old new result pages
     → ((roots : List ℕ) → AreRoots (trees_of l.components) roots → GoesBy result pages (way l disk roots)) → WereGiven l way old.clock disk result pages
 were-given l way old new disk (Ok x) pages read goes = record { given_pages = pages; lent = read.went.are_lent; are = refl; part = goes }
 were-given l way old new disk (Err (Damaged page)) pages read goes = record { given_pages = pages; lent = read.went.are_lent; are = refl; part = λ roots are. (read.went.stops, goes roots are) }
@@ -175,7 +171,7 @@ reads-made o old now way result pages m reads has t =
     let shown : AreShown (contents_of (extents_of old.lists.components) old.device.story) (trees_of old.lists.components) m.disk =
     subst (λ (story : Option Story). AreShown (contents_of (extents_of old.lists.components) story) (trees_of old.lists.components) m.disk) (sym t.told) l.shown in
     let made : WereGiven old.lists way old.device.clock m.disk result pages =
-    were-given old.lists way (seen_of old.device) (seen_of now) m.disk result pages reads.read (λ roots are. reads.by m.disk roots shown are) in
+    were-given old.lists way old.device now m.disk result pages reads.read (λ roots are. reads.by m.disk roots shown are) in
     record {
       pages = made.given_pages;
       lent = subst (λ (x : Lists). All (λ page. IsTrue (is_lent (extents_of x.components) page)) made.given_pages) has.lists made.lent;
@@ -214,7 +210,7 @@ pub read-cause : {X : Type 0} (old : StoreState) (now : DeviceState) (way : List
     → WhereTold (contents_of (extents_of old.lists.components) old.device.story) (λ contents. IsDamagedIn (trees_of old.lists.components) contents page) → WhereTold (Some page) (IsCause old.lists now)
 read-cause old now way page pages reads bad other is =
     let extents : _ = extents_of old.lists.components in
-    let same : contents_of extents now.story ≡ contents_of extents old.device.story = contents-asked extents (given pages) (seen_of old.device) (seen_of now) reads.read.went.asked_for in
+    let same : contents_of extents now.story ≡ contents_of extents old.device.story = contents-asked extents (given pages) old.device now reads.read.went.asked_for in
     subst (λ (n : ℕ). IsCause old.lists now n) (same_Some _ _ is)
     (record {
       clock = reads.clock_told;

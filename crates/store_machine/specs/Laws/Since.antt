@@ -6,7 +6,7 @@ use Rattle.primary_ix.specs.declared.rows.PrimRow.{PrimRow}
 use Rattle.store_state.specs.Held.{IsHeld}
 use Rattle.wal_log.specs.declared.log.Log.{Log}
 use Rattle.store_state.specs.Lists.{Lists}
-use Rattle.store_machine.specs.Devices.{DeviceState}
+use Rattle.dev_model.specs.Story.{DeviceState}
 use Rattle.store_machine.specs.Machine.{Machine, Opening, after_all}
 use Rattle.store_machine.specs.Runs.{IsRun}
 use Rattle.store_machine.specs.Standing.{StoreState, Stands, StandsSince, Tells}

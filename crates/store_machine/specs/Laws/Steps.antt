@@ -19,7 +19,7 @@ use Rattle.store_state.specs.Reading.{IsLegible}
 use Rattle.store_machine.specs.Runs.{IsRun, Allows}
 use Rattle.store_machine.specs.Calls.{Adds, IsEventOf, Makes}
 use Rattle.store_machine.specs.Standing.{StoreState, Begins, Has, Tells, Stands, StandsSince}
-use Rattle.store_machine.specs.Devices.{DeviceState}
+use Rattle.dev_model.specs.Story.{DeviceState}
 use Rattle.store_machine.specs.declared.events.Action.{Action}
 use Rattle.store_machine.specs.declared.events.Event.{Event}
 

@@ -16,7 +16,7 @@ use Rattle.store_machine.specs.Laws.LogCalls.{IsPlan, failed_calls, StoppedBy, f
 use Rattle.store_machine.specs.Outcomes.{Group}
 use Rattle.store_machine.specs.Machine.{Machine, Opening}
 use Rattle.store_machine.specs.Standing.{StoreState, Has, Tells}
-use Rattle.store_machine.specs.Devices.{DeviceState}
+use Rattle.dev_model.specs.Story.{DeviceState}
 use Rattle.store_state.specs.Keeping.{IsKept}
 use Rattle.store_state.specs.Reading.{IsLegible}
 use Rattle.store_machine.specs.Laws.Crashes.{keeps_table}

@@ -7,22 +7,22 @@ use Rattle.comp_dir.proofs.gates.install_slot.Goals as goal
 
 pub returns-in_err-write_slot-clause-within : goal.returns-in_err-write_slot-clause-within
 returns-in_err-write_slot-clause-within g c s is =
-    install-within c.args.n c.args.slot.now s {X = Unit {0}} {E = Unit {0}} (g.D.Device.story c.args.device.now) (g.D.Device.story c.write_slot.new.device) (Err tt) is
+    install-within c.args.n c.args.slot.now s {X = Unit {0}} {E = Unit {0}} (g.D.Device.seen c.args.device.now).story (g.D.Device.seen c.write_slot.new.device).story (Err tt) is
     (install-stops c.args.n c.args.slot.now _ _ c.in_err-write_slot.ensures.did)
 
 pub returns-in_err-sync-clause-within : goal.returns-in_err-sync-clause-within
 returns-in_err-sync-clause-within g c s is =
-    install-within c.args.n c.args.slot.now s {X = Unit {0}} {E = Unit {0}} (g.D.Device.story c.args.device.now) (g.D.Device.story c.sync.new.self) (Err tt) is
+    install-within c.args.n c.args.slot.now s {X = Unit {0}} {E = Unit {0}} (g.D.Device.seen c.args.device.now).story (g.D.Device.seen c.sync.new.self).story (Err tt) is
     (install-unsynced c.args.n c.args.slot.now _ _ _ c.in_ok-write_slot.ensures.did c.in_err-sync.ensures.told)
 
 pub returns-in_err-sync-clause-any_moment : goal.returns-in_err-sync-clause-any_moment
 returns-in_err-sync-clause-any_moment g c s is rest closed =
-    install-leaves c.args.n c.requires.below c.args.slot.now s rest closed {X = Unit {0}} {E = Unit {0}} (g.D.Device.story c.args.device.now) (g.D.Device.story c.sync.new.self) (Err tt) is
+    install-leaves c.args.n c.requires.below c.args.slot.now s rest closed {X = Unit {0}} {E = Unit {0}} (g.D.Device.seen c.args.device.now).story (g.D.Device.seen c.sync.new.self).story (Err tt) is
     (install-unsynced c.args.n c.args.slot.now _ _ _ c.in_ok-write_slot.ensures.did c.in_err-sync.ensures.told)
 
 pub returns-clause-did : goal.returns-clause-did
 returns-clause-did g c =
-    install-goes c.args.n c.args.slot.now (g.D.Device.story c.args.device.now) (g.D.Device.story c.write_slot.new.device) (g.D.Device.story c.sync.new.self) (g.D.Device.story c.open_gate.new.device)
+    install-goes c.args.n c.args.slot.now (g.D.Device.seen c.args.device.now).story (g.D.Device.seen c.write_slot.new.device).story (g.D.Device.seen c.sync.new.self).story (g.D.Device.seen c.open_gate.new.device).story
     c.open_gate.result c.in_ok-write_slot.ensures.did c.in_ok-sync.ensures.told c.open_gate.ensures.did
 
 pub returns-clause-within : goal.returns-clause-within

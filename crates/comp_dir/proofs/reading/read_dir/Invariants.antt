@@ -7,9 +7,9 @@ use Rattle.comp_dir.proofs.reading.read_dir.Given as goal
 
 abbrev pub invariant-loop-number : goal.invariant-loop-number
 invariant-loop-number g l =
-    WhereTold (g.D.Device.story l.fn.device) (λ s. ReadsDirectory s (g.D.Device.story l.device))
-    × WhereTold (g.D.Device.story l.fn.device) (λ s. IsAtRest s → HasFound (g.D.Device.pages l.fn.device) l.fn.declared (64 * l.number) (bytes_of s) l.found.items)
-    × AreLawful (g.D.Device.pages l.fn.device) l.fn.declared (64 * l.number) l.found.items
-    × (g.D.Device.clock l.device ≡ g.D.Device.clock l.fn.device + l.number)
-    × (g.D.Device.pages l.device ≡ g.D.Device.pages l.fn.device)
-    × (g.D.Device.fault_count l.fn.device ≤ g.D.Device.fault_count l.device)
+    WhereTold (g.D.Device.seen l.fn.device).story (λ s. ReadsDirectory s (g.D.Device.seen l.device).story)
+    × WhereTold (g.D.Device.seen l.fn.device).story (λ s. IsAtRest s → HasFound (g.D.Device.seen l.fn.device).pages l.fn.declared (64 * l.number) (bytes_of s) l.found.items)
+    × AreLawful (g.D.Device.seen l.fn.device).pages l.fn.declared (64 * l.number) l.found.items
+    × ((g.D.Device.seen l.device).clock ≡ (g.D.Device.seen l.fn.device).clock + l.number)
+    × ((g.D.Device.seen l.device).pages ≡ (g.D.Device.seen l.fn.device).pages)
+    × ((g.D.Device.seen l.fn.device).faults ≤ (g.D.Device.seen l.device).faults)

@@ -11,19 +11,19 @@ use Rattle.device_format.proofs.gates.close_gates.Goals as goal
 
 pub returns-in_err-close_slots-clause-did : goal.returns-in_err-close_slots-clause-did
 returns-in_err-close_slots-clause-did g c =
-    let stopped : HasStoppedIn close_gates (g.D.Device.story c.args.device.now) (g.D.Device.story c.close_slots.new.device) =
-    stopped_first (close_each slot_start 512) (close_each (segment_start LOG_START) 4 ++ Sync ∷ []) (g.D.Device.story c.args.device.now) (g.D.Device.story c.close_slots.new.device) c.in_err-close_slots.ensures.did in
+    let stopped : HasStoppedIn close_gates (g.D.Device.seen c.args.device.now).story (g.D.Device.seen c.close_slots.new.device).story =
+    stopped_first (close_each slot_start 512) (close_each (segment_start LOG_START) 4 ++ Sync ∷ []) (g.D.Device.seen c.args.device.now).story (g.D.Device.seen c.close_slots.new.device).story c.in_err-close_slots.ensures.did in
     search rules
 
 pub returns-in_err-close_headers-clause-did : goal.returns-in_err-close_headers-clause-did
 returns-in_err-close_headers-clause-did g c =
-    let stopped : HasStoppedIn close_gates (g.D.Device.story c.args.device.now) (g.D.Device.story c.close_headers.new.device) =
-    stopped_behind (close_each slot_start 512) (close_each (segment_start LOG_START) 4 ++ Sync ∷ []) (g.D.Device.story c.args.device.now) (g.D.Device.story c.close_slots.new.device) (g.D.Device.story c.close_headers.new.device) c.in_ok-close_slots.ensures.did
-    (stopped_first (close_each (segment_start LOG_START) 4) (Sync ∷ []) (g.D.Device.story c.close_slots.new.device) (g.D.Device.story c.close_headers.new.device) c.in_err-close_headers.ensures.did) in
+    let stopped : HasStoppedIn close_gates (g.D.Device.seen c.args.device.now).story (g.D.Device.seen c.close_headers.new.device).story =
+    stopped_behind (close_each slot_start 512) (close_each (segment_start LOG_START) 4 ++ Sync ∷ []) (g.D.Device.seen c.args.device.now).story (g.D.Device.seen c.close_slots.new.device).story (g.D.Device.seen c.close_headers.new.device).story c.in_ok-close_slots.ensures.did
+    (stopped_first (close_each (segment_start LOG_START) 4) (Sync ∷ []) (g.D.Device.seen c.close_slots.new.device).story (g.D.Device.seen c.close_headers.new.device).story c.in_err-close_headers.ensures.did) in
     search rules
 
 pub returns-clause-did : goal.returns-clause-did
 returns-clause-did g c =
-    did_both (close_each slot_start 512) (close_each (segment_start LOG_START) 4 ++ Sync ∷ []) (g.D.Device.story c.args.device.now) (g.D.Device.story c.close_slots.new.device) (g.D.Device.story c.sync.new.self) c.sync.result c.in_ok-close_slots.ensures.did
-    (did_both (close_each (segment_start LOG_START) 4) (Sync ∷ []) (g.D.Device.story c.close_slots.new.device) (g.D.Device.story c.close_headers.new.device) (g.D.Device.story c.sync.new.self) c.sync.result c.in_ok-close_headers.ensures.did
-    (Did-call _ _ Sync (g.D.Device.story c.close_headers.new.device) (g.D.Device.story c.sync.new.self) c.sync.result c.sync.ensures.told))
+    did_both (close_each slot_start 512) (close_each (segment_start LOG_START) 4 ++ Sync ∷ []) (g.D.Device.seen c.args.device.now).story (g.D.Device.seen c.close_slots.new.device).story (g.D.Device.seen c.sync.new.self).story c.sync.result c.in_ok-close_slots.ensures.did
+    (did_both (close_each (segment_start LOG_START) 4) (Sync ∷ []) (g.D.Device.seen c.close_slots.new.device).story (g.D.Device.seen c.close_headers.new.device).story (g.D.Device.seen c.sync.new.self).story c.sync.result c.in_ok-close_headers.ensures.did
+    (Did-call _ _ Sync (g.D.Device.seen c.close_headers.new.device).story (g.D.Device.seen c.sync.new.self).story c.sync.result c.sync.ensures.told))

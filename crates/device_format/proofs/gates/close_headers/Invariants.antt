@@ -7,8 +7,8 @@ use Rattle.device_format.proofs.gates.close_headers.Given as goal
 
 abbrev pub invariant-loop-segment : goal.invariant-loop-segment
 invariant-loop-segment g l = record {
-  did : g.D.Device.story l.device ≡ all_noted (close_each (segment_start LOG_START) l.segment) (g.D.Device.story l.fn.device);
-  ticks : g.D.Device.clock l.device ≡ g.D.Device.clock l.fn.device + l.segment;
-  same_pages : g.D.Device.pages l.device ≡ g.D.Device.pages l.fn.device;
-  faults : g.D.Device.fault_count l.fn.device ≤ g.D.Device.fault_count l.device;
+  did : (g.D.Device.seen l.device).story ≡ all_noted (close_each (segment_start LOG_START) l.segment) (g.D.Device.seen l.fn.device).story;
+  ticks : (g.D.Device.seen l.device).clock ≡ (g.D.Device.seen l.fn.device).clock + l.segment;
+  same_pages : (g.D.Device.seen l.device).pages ≡ (g.D.Device.seen l.fn.device).pages;
+  faults : (g.D.Device.seen l.fn.device).faults ≤ (g.D.Device.seen l.device).faults;
 }

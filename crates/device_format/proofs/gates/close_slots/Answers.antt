@@ -7,7 +7,7 @@ use Rattle.device_format.proofs.gates.close_slots.Goals as goal
 
 pub returns-in_err-write-clause-did : goal.returns-in_err-write-clause-did
 returns-in_err-write-clause-did g c =
-    let stopped : HasStoppedIn (close_each slot_start 512) (g.D.Device.story c.args.device.now) (g.D.Device.story c.write.new.self) =
-    close_stopped slot_start c.loop-slot.slot 512 (4096 + 64 * c.from.result) (g.D.Device.story c.args.device.now) (g.D.Device.story c.loop-slot.device) (g.D.Device.story c.write.new.self)
+    let stopped : HasStoppedIn (close_each slot_start 512) (g.D.Device.seen c.args.device.now).story (g.D.Device.seen c.write.new.self).story =
+    close_stopped slot_start c.loop-slot.slot 512 (4096 + 64 * c.from.result) (g.D.Device.seen c.args.device.now).story (g.D.Device.seen c.loop-slot.device).story (g.D.Device.seen c.write.new.self).story
     (omega (arith, c.loop-slot-test.true)) (ap (λ (n : ℕ). 4096 + 64 * n) c.from.ensures) c.loop-slot.invariant.did c.in_err-write.ensures.told in
     search rules

@@ -6,67 +6,67 @@ use Rattle.kept_state.proofs.Opening.{slot-leaves, unsynced-leaves, opened-leave
 use Rattle.kept_state.proofs.installing.install_component.Goals as goal
 
 pub returns-in_err-write_slot-clause-within : goal.returns-in_err-write_slot-clause-within
-returns-in_err-write_slot-clause-within g c s is = slot-within c.args.n s (g.D.Device.story c.write_slot.new.device) (c.write_slot.ensures.within s is)
+returns-in_err-write_slot-clause-within g c s is = slot-within c.args.n s (g.D.Device.seen c.write_slot.new.device).story (c.write_slot.ensures.within s is)
 
 pub returns-in_err-sync-clause-within : goal.returns-in_err-sync-clause-within
 returns-in_err-sync-clause-within g c s is =
-    synced-within c.args.n s (g.D.Device.story c.write_slot.new.device) (g.D.Device.story c.sync.new.self) c.sync.result (c.write_slot.ensures.within s is) c.sync.ensures.told
+    synced-within c.args.n s (g.D.Device.seen c.write_slot.new.device).story (g.D.Device.seen c.sync.new.self).story c.sync.result (c.write_slot.ensures.within s is) c.sync.ensures.told
 
 pub returns-in_err-sync-clause-same_segments : goal.returns-in_err-sync-clause-same_segments
 returns-in_err-sync-clause-same_segments g c s is t told =
-    slot-segments c.args.n s t (g.D.Device.story c.sync.new.self) c.requires.below (returns-in_err-sync-clause-within g c s is) told
+    slot-segments c.args.n s t (g.D.Device.seen c.sync.new.self).story c.requires.below (returns-in_err-sync-clause-within g c s is) told
 
 pub returns-in_err-open_gate-clause-within : goal.returns-in_err-open_gate-clause-within
 returns-in_err-open_gate-clause-within g c s is =
-    installed-within c.args.n s (g.D.Device.story c.write_slot.new.device) (g.D.Device.story c.sync.new.self) (g.D.Device.story c.open_gate.new.device) c.sync.result
+    installed-within c.args.n s (g.D.Device.seen c.write_slot.new.device).story (g.D.Device.seen c.sync.new.self).story (g.D.Device.seen c.open_gate.new.device).story c.sync.result
     (c.write_slot.ensures.within s is) c.sync.ensures.told c.open_gate.ensures.within
 
 pub returns-in_err-open_gate-clause-same_segments : goal.returns-in_err-open_gate-clause-same_segments
 returns-in_err-open_gate-clause-same_segments g c s is t told =
-    slot-segments c.args.n s t (g.D.Device.story c.open_gate.new.device) c.requires.below (returns-in_err-open_gate-clause-within g c s is) told
+    slot-segments c.args.n s t (g.D.Device.seen c.open_gate.new.device).story c.requires.below (returns-in_err-open_gate-clause-within g c s is) told
 
 pub returns-clause-within : goal.returns-clause-within
 returns-clause-within g c s is =
-    installed-within c.args.n s (g.D.Device.story c.write_slot.new.device) (g.D.Device.story c.sync.new.self) (g.D.Device.story c.open_gate.new.device) c.sync.result
+    installed-within c.args.n s (g.D.Device.seen c.write_slot.new.device).story (g.D.Device.seen c.sync.new.self).story (g.D.Device.seen c.open_gate.new.device).story c.sync.result
     (c.write_slot.ensures.within s is) c.sync.ensures.told c.open_gate.ensures.within
 
 pub returns-clause-same_segments : goal.returns-clause-same_segments
 returns-clause-same_segments g c s is t told =
-    slot-segments c.args.n s t (g.D.Device.story c.open_gate.new.device) c.requires.below (returns-clause-within g c s is) told
+    slot-segments c.args.n s t (g.D.Device.seen c.open_gate.new.device).story c.requires.below (returns-clause-within g c s is) told
 
 pub returns-clause-installed : goal.returns-clause-installed
 returns-clause-installed g c s is rest closed =
-    installed-directory c.args.n c.args.slot.now s (g.D.Device.story c.write_slot.new.device) (g.D.Device.story c.open_gate.new.device) (c.write_slot.ensures.within s is)
+    installed-directory c.args.n c.args.slot.now s (g.D.Device.seen c.write_slot.new.device).story (g.D.Device.seen c.open_gate.new.device).story (c.write_slot.ensures.within s is)
     (c.write_slot.ensures.at_rest s is rest closed) (c.write_slot.ensures.same s is rest closed) (c.in_ok-write_slot.ensures.written s is closed)
     (λ u told. c.in_ok-open_gate.ensures.opened c.args.slot.now u (c.in_ok-sync.ensures.told ∙ told))
 
 pub returns-in_err-write_slot-clause-any_moment : goal.returns-in_err-write_slot-clause-any_moment
 returns-in_err-write_slot-clause-any_moment g c log table frozen lists s is rest may closed written =
-    slot-leaves (g.D.Device.pages c.args.device.now) log table s c.args.n c.args.slot.now frozen lists rest may closed (g.D.Device.story c.write_slot.new.device) (c.write_slot.ensures.within s is)
+    slot-leaves (g.D.Device.seen c.args.device.now).pages log table s c.args.n c.args.slot.now frozen lists rest may closed (g.D.Device.seen c.write_slot.new.device).story (c.write_slot.ensures.within s is)
 
 pub returns-in_err-sync-clause-any_moment : goal.returns-in_err-sync-clause-any_moment
 returns-in_err-sync-clause-any_moment g c log table frozen lists s is rest may closed written =
-    unsynced-leaves (g.D.Device.pages c.args.device.now) log table c.args.n c.args.slot.now frozen lists s rest may closed written (g.D.Device.story c.write_slot.new.device) (c.write_slot.ensures.within s is) (g.D.Device.story c.sync.new.self)
-    (λ t told. WritesWithin-did 0 0 t (Sync ∷ []) (g.D.Device.story c.write_slot.new.device) (g.D.Device.story c.sync.new.self) c.sync.result told (Did-call _ _ Sync _ _ c.sync.result c.sync.ensures.told) (λ i out. (tt, tt)))
+    unsynced-leaves (g.D.Device.seen c.args.device.now).pages log table c.args.n c.args.slot.now frozen lists s rest may closed written (g.D.Device.seen c.write_slot.new.device).story (c.write_slot.ensures.within s is) (g.D.Device.seen c.sync.new.self).story
+    (λ t told. WritesWithin-did 0 0 t (Sync ∷ []) (g.D.Device.seen c.write_slot.new.device).story (g.D.Device.seen c.sync.new.self).story c.sync.result told (Did-call _ _ Sync _ _ c.sync.result c.sync.ensures.told) (λ i out. (tt, tt)))
 
 pub returns-in_err-open_gate-clause-any_moment : goal.returns-in_err-open_gate-clause-any_moment
 returns-in_err-open_gate-clause-any_moment g c log table frozen lists s is rest may closed written =
-    opened-leaves (g.D.Device.pages c.args.device.now) log table c.args.n c.args.slot.now frozen lists s rest may closed written (g.D.Device.story c.write_slot.new.device) (c.write_slot.ensures.within s is)
-    (λ t told. c.in_ok-write_slot.ensures.written s is closed t told) (g.D.Device.story c.open_gate.new.device)
+    opened-leaves (g.D.Device.seen c.args.device.now).pages log table c.args.n c.args.slot.now frozen lists s rest may closed written (g.D.Device.seen c.write_slot.new.device).story (c.write_slot.ensures.within s is)
+    (λ t told. c.in_ok-write_slot.ensures.written s is closed t told) (g.D.Device.seen c.open_gate.new.device).story
     (λ u told. c.open_gate.ensures.within u (c.in_ok-sync.ensures.told ∙ told))
     (λ u told directory ready. c.open_gate.ensures.any_moment c.args.slot.now u (c.in_ok-sync.ensures.told ∙ told) directory ready)
 
 pub returns-clause-any_moment : goal.returns-clause-any_moment
 returns-clause-any_moment g c log table frozen lists s is rest may closed written =
-    opened-leaves (g.D.Device.pages c.args.device.now) log table c.args.n c.args.slot.now frozen lists s rest may closed written (g.D.Device.story c.write_slot.new.device) (c.write_slot.ensures.within s is)
-    (λ t told. c.in_ok-write_slot.ensures.written s is closed t told) (g.D.Device.story c.open_gate.new.device)
+    opened-leaves (g.D.Device.seen c.args.device.now).pages log table c.args.n c.args.slot.now frozen lists s rest may closed written (g.D.Device.seen c.write_slot.new.device).story (c.write_slot.ensures.within s is)
+    (λ t told. c.in_ok-write_slot.ensures.written s is closed t told) (g.D.Device.seen c.open_gate.new.device).story
     (λ u told. c.open_gate.ensures.within u (c.in_ok-sync.ensures.told ∙ told))
     (λ u told directory ready. c.open_gate.ensures.any_moment c.args.slot.now u (c.in_ok-sync.ensures.told ∙ told) directory ready)
 
 pub returns-clause-rests : goal.returns-clause-rests
 returns-clause-rests g c log table frozen lists s is rest may closed written t told =
-    installed-rests (g.D.Device.pages c.args.device.now) log table c.args.n c.args.slot.now frozen lists s rest may closed written (g.D.Device.story c.write_slot.new.device) (c.write_slot.ensures.within s is)
-    (λ t told. c.in_ok-write_slot.ensures.written s is closed t told) (g.D.Device.story c.open_gate.new.device)
+    installed-rests (g.D.Device.seen c.args.device.now).pages log table c.args.n c.args.slot.now frozen lists s rest may closed written (g.D.Device.seen c.write_slot.new.device).story (c.write_slot.ensures.within s is)
+    (λ t told. c.in_ok-write_slot.ensures.written s is closed t told) (g.D.Device.seen c.open_gate.new.device).story
     (λ u told. c.open_gate.ensures.within u (c.in_ok-sync.ensures.told ∙ told))
     (λ u told directory ready. c.open_gate.ensures.any_moment c.args.slot.now u (c.in_ok-sync.ensures.told ∙ told) directory ready)
     (λ u told directory ready t now. c.in_ok-open_gate.ensures.at_rest c.args.slot.now u (c.in_ok-sync.ensures.told ∙ told) directory ready t now)
@@ -74,8 +74,8 @@ returns-clause-rests g c log table frozen lists s is rest may closed written t t
 
 pub returns-clause-placed : goal.returns-clause-placed
 returns-clause-placed g c log table frozen lists s is rest may closed written t told =
-    installed-placed (g.D.Device.pages c.args.device.now) log table c.args.n c.args.slot.now frozen lists s rest may closed written (g.D.Device.story c.write_slot.new.device) (c.write_slot.ensures.within s is)
-    (λ t told. c.in_ok-write_slot.ensures.written s is closed t told) (g.D.Device.story c.open_gate.new.device)
+    installed-placed (g.D.Device.seen c.args.device.now).pages log table c.args.n c.args.slot.now frozen lists s rest may closed written (g.D.Device.seen c.write_slot.new.device).story (c.write_slot.ensures.within s is)
+    (λ t told. c.in_ok-write_slot.ensures.written s is closed t told) (g.D.Device.seen c.open_gate.new.device).story
     (λ u told. c.open_gate.ensures.within u (c.in_ok-sync.ensures.told ∙ told))
     (λ u told directory ready. c.open_gate.ensures.any_moment c.args.slot.now u (c.in_ok-sync.ensures.told ∙ told) directory ready)
     (λ u told directory ready t now. c.in_ok-open_gate.ensures.at_rest c.args.slot.now u (c.in_ok-sync.ensures.told ∙ told) directory ready t now)

@@ -2,34 +2,34 @@ use Rattle.kept_state.proofs.LogSteps.{append-within, logged-directory, append-l
 use Rattle.kept_state.proofs.logging.append_record.Goals as goal
 
 pub returns-in_err-ack-clause-within : goal.returns-in_err-ack-clause-within
-returns-in_err-ack-clause-within g c s is = append-within c.args.log.now s (g.D.Device.story c.append.new.device) c.requires.start c.requires.room (c.append.ensures.within s is)
+returns-in_err-ack-clause-within g c s is = append-within c.args.log.now s (g.D.Device.seen c.append.new.device).story c.requires.start c.requires.room (c.append.ensures.within s is)
 
 pub returns-in_err-ack-clause-same_directory : goal.returns-in_err-ack-clause-same_directory
-returns-in_err-ack-clause-same_directory g c s is t told = logged-directory s t (g.D.Device.story c.append.new.device) (returns-in_err-ack-clause-within g c s is) told
+returns-in_err-ack-clause-same_directory g c s is t told = logged-directory s t (g.D.Device.seen c.append.new.device).story (returns-in_err-ack-clause-within g c s is) told
 
 pub returns-clause-within : goal.returns-clause-within
-returns-clause-within g c s is = append-within c.args.log.now s (g.D.Device.story c.append.new.device) c.requires.start c.requires.room (c.append.ensures.within s is)
+returns-clause-within g c s is = append-within c.args.log.now s (g.D.Device.seen c.append.new.device).story c.requires.start c.requires.room (c.append.ensures.within s is)
 
 pub returns-clause-same_directory : goal.returns-clause-same_directory
-returns-clause-same_directory g c s is t told = logged-directory s t (g.D.Device.story c.append.new.device) (returns-clause-within g c s is) told
+returns-clause-same_directory g c s is t told = logged-directory s t (g.D.Device.seen c.append.new.device).story (returns-clause-within g c s is) told
 
 pub returns-in_err-ack-clause-any_moment : goal.returns-in_err-ack-clause-any_moment
 returns-in_err-ack-clause-any_moment g c table s is rest behind says =
-    append-leaves (g.D.Device.pages c.args.device.now) c.args.log.now c.append.new.self table c.args.logged.now (g.D.Device.story c.args.device.now) (g.D.Device.story c.append.new.device) s is rest c.requires.room behind
+    append-leaves (g.D.Device.seen c.args.device.now).pages c.args.log.now c.append.new.self table c.args.logged.now (g.D.Device.seen c.args.device.now).story (g.D.Device.seen c.append.new.device).story s is rest c.requires.room behind
     (c.append.ensures.within s is) says (c.append.ensures.recovers s is)
 
 pub returns-clause-any_moment : goal.returns-clause-any_moment
 returns-clause-any_moment g c table s is rest behind says =
-    append-leaves (g.D.Device.pages c.args.device.now) c.args.log.now c.append.new.self table c.args.logged.now (g.D.Device.story c.args.device.now) (g.D.Device.story c.append.new.device) s is rest c.requires.room behind
+    append-leaves (g.D.Device.seen c.args.device.now).pages c.args.log.now c.append.new.self table c.args.logged.now (g.D.Device.seen c.args.device.now).story (g.D.Device.seen c.append.new.device).story s is rest c.requires.room behind
     (c.append.ensures.within s is) says (c.append.ensures.recovers s is)
 
 pub returns-clause-rests : goal.returns-clause-rests
 returns-clause-rests g c table s is rest behind says t told =
-    append-rest (g.D.Device.pages c.args.device.now) c.args.log.now c.append.new.self table c.args.logged.now (g.D.Device.story c.args.device.now) (g.D.Device.story c.append.new.device) s is rest c.requires.room behind
+    append-rest (g.D.Device.seen c.args.device.now).pages c.args.log.now c.append.new.self table c.args.logged.now (g.D.Device.seen c.args.device.now).story (g.D.Device.seen c.append.new.device).story s is rest c.requires.room behind
     (c.append.ensures.within s is) t told says c.append.ensures.start c.in_ok-ack.ensures.at_rest
     (λ of. c.in_ok-ack.ensures.log_of s is rest.log_rest of t told) (λ of ends opens. c.in_ok-ack.ensures.logged s is rest.log_rest of ends opens t told)
 
 pub returns-clause-later_records : goal.returns-clause-later_records
 returns-clause-later_records g c table s is rest behind t told =
-    append-later (g.D.Device.pages c.args.device.now) c.args.log.now c.append.new.self table c.args.logged.now (g.D.Device.story c.args.device.now) (g.D.Device.story c.append.new.device) s is rest c.requires.room behind
+    append-later (g.D.Device.seen c.args.device.now).pages c.args.log.now c.append.new.self table c.args.logged.now (g.D.Device.seen c.args.device.now).story (g.D.Device.seen c.append.new.device).story s is rest c.requires.room behind
     (c.append.ensures.within s is) t told (λ of ends opens. c.in_ok-ack.ensures.logged s is rest.log_rest of ends opens t told)

@@ -2,34 +2,34 @@ use Rattle.kept_state.proofs.LogSteps.{turn-within, logged-directory, turn-leave
 use Rattle.kept_state.proofs.logging.change_segments.Goals as goal
 
 pub returns-in_err-next_segment-clause-within : goal.returns-in_err-next_segment-clause-within
-returns-in_err-next_segment-clause-within g c s is = turn-within c.args.log.now s (g.D.Device.story c.next_segment.new.device) c.requires.start (c.next_segment.ensures.within s is)
+returns-in_err-next_segment-clause-within g c s is = turn-within c.args.log.now s (g.D.Device.seen c.next_segment.new.device).story c.requires.start (c.next_segment.ensures.within s is)
 
 pub returns-in_err-next_segment-clause-same_directory : goal.returns-in_err-next_segment-clause-same_directory
-returns-in_err-next_segment-clause-same_directory g c s is t told = logged-directory s t (g.D.Device.story c.next_segment.new.device) (returns-in_err-next_segment-clause-within g c s is) told
+returns-in_err-next_segment-clause-same_directory g c s is t told = logged-directory s t (g.D.Device.seen c.next_segment.new.device).story (returns-in_err-next_segment-clause-within g c s is) told
 
 pub returns-clause-within : goal.returns-clause-within
-returns-clause-within g c s is = turn-within c.args.log.now s (g.D.Device.story c.next_segment.new.device) c.requires.start (c.next_segment.ensures.within s is)
+returns-clause-within g c s is = turn-within c.args.log.now s (g.D.Device.seen c.next_segment.new.device).story c.requires.start (c.next_segment.ensures.within s is)
 
 pub returns-clause-same_directory : goal.returns-clause-same_directory
-returns-clause-same_directory g c s is t told = logged-directory s t (g.D.Device.story c.next_segment.new.device) (returns-clause-within g c s is) told
+returns-clause-same_directory g c s is t told = logged-directory s t (g.D.Device.seen c.next_segment.new.device).story (returns-clause-within g c s is) told
 
 pub returns-in_err-next_segment-clause-any_moment : goal.returns-in_err-next_segment-clause-any_moment
 returns-in_err-next_segment-clause-any_moment g c table s is rest there =
-    turn-leaves (g.D.Device.pages c.args.device.now) c.args.log.now c.next_segment.new.self table (g.D.Device.story c.args.device.now) (g.D.Device.story c.next_segment.new.device) s is rest there
+    turn-leaves (g.D.Device.seen c.args.device.now).pages c.args.log.now c.next_segment.new.self table (g.D.Device.seen c.args.device.now).story (g.D.Device.seen c.next_segment.new.device).story s is rest there
     (c.next_segment.ensures.within s is) (c.next_segment.ensures.recovers s is) (c.next_segment.ensures.later s is)
 
 pub returns-clause-any_moment : goal.returns-clause-any_moment
 returns-clause-any_moment g c table s is rest there =
-    turn-leaves (g.D.Device.pages c.args.device.now) c.args.log.now c.next_segment.new.self table (g.D.Device.story c.args.device.now) (g.D.Device.story c.next_segment.new.device) s is rest there
+    turn-leaves (g.D.Device.seen c.args.device.now).pages c.args.log.now c.next_segment.new.self table (g.D.Device.seen c.args.device.now).story (g.D.Device.seen c.next_segment.new.device).story s is rest there
     (c.next_segment.ensures.within s is) (c.next_segment.ensures.recovers s is) (c.next_segment.ensures.later s is)
 
 pub returns-clause-rests : goal.returns-clause-rests
 returns-clause-rests g c table s is rest there t told =
-    turn-rest (g.D.Device.pages c.args.device.now) c.args.log.now c.next_segment.new.self table (g.D.Device.story c.args.device.now) (g.D.Device.story c.next_segment.new.device) s is rest there
+    turn-rest (g.D.Device.seen c.args.device.now).pages c.args.log.now c.next_segment.new.self table (g.D.Device.seen c.args.device.now).story (g.D.Device.seen c.next_segment.new.device).story s is rest there
     (c.next_segment.ensures.within s is) (c.next_segment.ensures.recovers s is) (c.next_segment.ensures.later s is) t told c.next_segment.ensures.start c.in_ok-next_segment.ensures.at_rest
     (λ of. c.in_ok-next_segment.ensures.log_of s is rest.log_rest of t told)
 
 pub returns-clause-later_records : goal.returns-clause-later_records
 returns-clause-later_records g c table s is rest there t told =
-    turn-later (g.D.Device.pages c.args.device.now) c.args.log.now c.next_segment.new.self table (g.D.Device.story c.args.device.now) (g.D.Device.story c.next_segment.new.device) s is rest there
+    turn-later (g.D.Device.seen c.args.device.now).pages c.args.log.now c.next_segment.new.self table (g.D.Device.seen c.args.device.now).story (g.D.Device.seen c.next_segment.new.device).story s is rest there
     (c.next_segment.ensures.within s is) (c.next_segment.ensures.recovers s is) (c.next_segment.ensures.later s is) t told

@@ -13,7 +13,7 @@ returns-in-Some-clause-found g c disk shown = found-memory c.args.state.now.0.ac
 pub returns-in-Some-clause-asked : goal.returns-in-Some-clause-asked
 returns-in-Some-clause-asked g c = (
   [],
-  read-none c.args.state.now.0 g.D.Device.pages g.D.Device.clock g.D.Device.story g.met.D.Device.clock_told c.args.device.now _,
+  read-none c.args.state.now.0 g.D.Device.seen g.met.D.Device.clock_told c.args.device.now _,
   λ contents told. All-nil (IsTestedIn _ contents),
   λ disk roots shown at. pages-memory c.args.state.now.0.active c.args.state.now.0.frozen c.args.key c.in-Some.row c.in-Some.ensures _ disk roots,
 )
@@ -33,7 +33,7 @@ returns-clause-asked g c =
     let begins = ap g.D.Device.story c.new-pages.ensures.untouched in
     let are = c.components-components.ensures.trees in (
       asked.0,
-      read-lent c.args.state.now.0 g.D.Device.pages g.D.Device.clock g.D.Device.story g.met.D.Device.clock_told c.new-pages.result.extents.now
+      read-lent c.args.state.now.0 g.D.Device.seen g.met.D.Device.clock_told c.new-pages.result.extents.now
           c.args.device.now c.new-pages.result.device.now c.lookup_disk.new.pages.device.now _ c.lookup_disk.result asked.0
           c.new-pages.ensures.untouched lends (search rules)
           (record { asked_for = asked.1.asked_for.2; are_lent = asked.1.are_lent; stops = asked.1.stops }),

@@ -1,15 +1,14 @@
-use Rattle.device_pages.specs.Asked.{seen}
 use Rattle.kept_state.proofs.Went.{only-read}
 use Rattle.kept_state.proofs.reading.read_row.Goals as goal
 
 pub returns-in-Ok-clause-stays : goal.returns-in-Ok-clause-stays
 returns-in-Ok-clause-stays g c =
     let D = g.D.Device in
-    only-read c.args.state.now.0 (seen D.pages D.clock D.story c.args.device.now) (seen D.pages D.clock D.story c.find_row.new.device)
+    only-read c.args.state.now.0 (D.seen c.args.device.now) (D.seen c.find_row.new.device)
     c.find_row.result c.find_row.ensures.asked.0 c.find_row.ensures.lists c.find_row.ensures.asked.1
 
 pub returns-in-Err-clause-stays : goal.returns-in-Err-clause-stays
 returns-in-Err-clause-stays g c =
     let D = g.D.Device in
-    only-read c.args.state.now.0 (seen D.pages D.clock D.story c.args.device.now) (seen D.pages D.clock D.story c.find_row.new.device)
+    only-read c.args.state.now.0 (D.seen c.args.device.now) (D.seen c.find_row.new.device)
     c.find_row.result c.find_row.ensures.asked.0 c.find_row.ensures.lists c.find_row.ensures.asked.1

@@ -1,7 +1,7 @@
 use Rattle.std.proofs.Common.{◌≡◌, ℕ, ◌<◌, ◌≤◌, [], length, get_or, take, sym, ◌∙◌, ap, subst, arith}
 use Rattle.std.proofs.lemmas.List.{take_all}
 use Rattle.dev_model.specs.Story.{Bytes, bytes_after}
-use Rattle.mem_device.specs.Memory.{place}
+use Rattle.dev_model.specs.Story.{place}
 use Rattle.mem_device.specs.Inside.{calls_onto, call_of}
 use Rattle.mem_device.specs.TornImages.{image_after, image_during}
 use Rattle.mem_device.specs.Inside.{bytes_with, image_with, IsOnDevice}

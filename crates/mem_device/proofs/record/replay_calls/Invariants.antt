@@ -1,6 +1,6 @@
 use Rattle.std.proofs.Common.{◌≡◌, ℕ, [], take, slice_index}
 use Rattle.dev_model.specs.Story.{bytes_after}
-use Rattle.mem_device.specs.Memory.{place}
+use Rattle.dev_model.specs.Story.{place}
 use Rattle.mem_device.specs.Inside.{calls_onto}
 use Rattle.mem_device.specs.TornImages.{image_after}
 use Rattle.mem_device.proofs.record.replay_calls.Given as goal

@@ -1,5 +1,4 @@
 use Rattle.std.proofs.Common.{ap, inr, sym, subst, Ok, Err}
-use Rattle.store_core.specs.Stores.{device_of}
 use Rattle.spatial_run.specs.Parts.{IsFormatEnd}
 use Rattle.spatial_run.specs.EndingViews.{ending_of}
 use Rattle.spatial_run.proofs.Ends.{format-done}
@@ -8,13 +7,13 @@ use Rattle.spatial_run.proofs.device.format.Goals as goal
 
 pub returns-in-Ok-clause-end : goal.returns-in-Ok-clause-end
 returns-in-Ok-clause-end g c =
-    subst (λ d. IsFormatEnd c.args.indexes (device_of g.D.Device.pages g.D.Device.clock g.D.Device.fault_count g.D.Device.story c.args.device) (device_of g.D.Device.pages g.D.Device.clock g.D.Device.fault_count g.D.Device.story d) c.without_commands.result.acks.items (ending_of c.without_commands.result.ending)) (sym c.without_commands.ensures.device)
-    (format-done c.args.indexes (device_of g.D.Device.pages g.D.Device.clock g.D.Device.fault_count g.D.Device.story c.args.device) (device_of g.D.Device.pages g.D.Device.clock g.D.Device.fault_count g.D.Device.story c.format_dev.new.device) c.without_commands.result.acks.items (ending_of c.without_commands.result.ending)
+    subst (λ d. IsFormatEnd c.args.indexes (g.D.Device.seen c.args.device) (g.D.Device.seen d) c.without_commands.result.acks.items (ending_of c.without_commands.result.ending)) (sym c.without_commands.ensures.device)
+    (format-done c.args.indexes (g.D.Device.seen c.args.device) (g.D.Device.seen c.format_dev.new.device) c.without_commands.result.acks.items (ending_of c.without_commands.result.ending)
     c.pages-pages.result (ap ending_of c.without_commands.ensures.ending) c.pages-pages.ensures c.without_commands.ensures.acks
-    (formatting-of c.args.indexes (device_of g.D.Device.pages g.D.Device.clock g.D.Device.fault_count g.D.Device.story c.args.device) (device_of g.D.Device.pages g.D.Device.clock g.D.Device.fault_count g.D.Device.story c.format_dev.new.device) (Ok tt) c.in-Ok.ensures.did c.in-Ok.ensures.formatted c.in-Ok.ensures.any_moment c.in-Ok.ensures.over_none c.in-Ok.ensures.same_pages c.in-Ok.ensures.cause))
+    (formatting-of c.args.indexes (g.D.Device.seen c.args.device) (g.D.Device.seen c.format_dev.new.device) (Ok tt) c.in-Ok.ensures.did c.in-Ok.ensures.formatted c.in-Ok.ensures.any_moment c.in-Ok.ensures.over_none c.in-Ok.ensures.same_pages c.in-Ok.ensures.cause))
 
 pub returns-in-Err-clause-end : goal.returns-in-Err-clause-end
 returns-in-Err-clause-end g c =
-    subst (λ d. IsFormatEnd c.args.indexes (device_of g.D.Device.pages g.D.Device.clock g.D.Device.fault_count g.D.Device.story c.args.device) (device_of g.D.Device.pages g.D.Device.clock g.D.Device.fault_count g.D.Device.story d) c.without_commands-in-Err.result.acks.items (ending_of c.without_commands-in-Err.result.ending)) (sym c.without_commands-in-Err.ensures.device)
-    (inr (format-stopped c.args.indexes (device_of g.D.Device.pages g.D.Device.clock g.D.Device.fault_count g.D.Device.story c.args.device) (device_of g.D.Device.pages g.D.Device.clock g.D.Device.fault_count g.D.Device.story c.format_dev.new.device) c.in-Err.field-0 c.without_commands-in-Err.result.acks.items (ending_of c.without_commands-in-Err.result.ending) (ap ending_of c.without_commands-in-Err.ensures.ending) c.without_commands-in-Err.ensures.acks
-    (formatting-of c.args.indexes (device_of g.D.Device.pages g.D.Device.clock g.D.Device.fault_count g.D.Device.story c.args.device) (device_of g.D.Device.pages g.D.Device.clock g.D.Device.fault_count g.D.Device.story c.format_dev.new.device) (Err c.in-Err.field-0) c.in-Err.ensures.did c.in-Err.ensures.formatted c.in-Err.ensures.any_moment c.in-Err.ensures.over_none c.in-Err.ensures.same_pages c.in-Err.ensures.cause)))
+    subst (λ d. IsFormatEnd c.args.indexes (g.D.Device.seen c.args.device) (g.D.Device.seen d) c.without_commands-in-Err.result.acks.items (ending_of c.without_commands-in-Err.result.ending)) (sym c.without_commands-in-Err.ensures.device)
+    (inr (format-stopped c.args.indexes (g.D.Device.seen c.args.device) (g.D.Device.seen c.format_dev.new.device) c.in-Err.field-0 c.without_commands-in-Err.result.acks.items (ending_of c.without_commands-in-Err.result.ending) (ap ending_of c.without_commands-in-Err.ensures.ending) c.without_commands-in-Err.ensures.acks
+    (formatting-of c.args.indexes (g.D.Device.seen c.args.device) (g.D.Device.seen c.format_dev.new.device) (Err c.in-Err.field-0) c.in-Err.ensures.did c.in-Err.ensures.formatted c.in-Err.ensures.any_moment c.in-Err.ensures.over_none c.in-Err.ensures.same_pages c.in-Err.ensures.cause)))

@@ -1,6 +1,5 @@
 use Rattle.std.proofs.Common.{sym, subst, ap, Some, Err}
 use Rattle.script_lang.specs.CommandViews.{phases_of}
-use Rattle.store_core.specs.Stores.{device_of}
 use Rattle.spatial_run.specs.Tasks as model
 use Rattle.spatial_run.specs.Endings.{Ending}
 use Rattle.spatial_run.specs.Parts.{IsReadEnd}
@@ -10,12 +9,12 @@ use Rattle.spatial_run.proofs.device.run_serial.Goals as goal
 
 pub returns-in-Ok-clause-cause : goal.returns-in-Ok-clause-cause
 returns-in-Ok-clause-cause g c =
-    serial-ran (g.R.Source.fault_count c.args.source.now) (g.R.Source.fault_count c.read.new.source) (g.R.Source.left c.args.source.now) (device_of g.D.Device.pages g.D.Device.clock g.D.Device.fault_count g.D.Device.story c.args.device) (device_of g.D.Device.pages g.D.Device.clock g.D.Device.fault_count g.D.Device.story c.run_script.result.device) c.run_script.result.acks.items
+    serial-ran (g.R.Source.fault_count c.args.source.now) (g.R.Source.fault_count c.read.new.source) (g.R.Source.left c.args.source.now) (g.D.Device.seen c.args.device) (g.D.Device.seen c.run_script.result.device) c.run_script.result.acks.items
     (phases_of c.in-Ok.script) (ending_of c.run_script.result.ending) c.in-Ok.ensures.script c.run_script.ensures.end
 
 pub returns-in-Err-clause-cause : goal.returns-in-Err-clause-cause
 returns-in-Err-clause-cause g c =
-    unread (g.R.Source.fault_count c.args.source.now) (g.R.Source.fault_count c.read.new.source) (g.R.Source.left c.args.source.now) (device_of g.D.Device.pages g.D.Device.clock g.D.Device.fault_count g.D.Device.story c.args.device) (device_of g.D.Device.pages g.D.Device.clock g.D.Device.fault_count g.D.Device.story c.without_commands.result.device) c.without_commands.result.acks.items
+    unread (g.R.Source.fault_count c.args.source.now) (g.R.Source.fault_count c.read.new.source) (g.R.Source.left c.args.source.now) (g.D.Device.seen c.args.device) (g.D.Device.seen c.without_commands.result.device) c.without_commands.result.acks.items
     (Some model.serial) tt (ending_of c.without_commands.result.ending)
     (subst (λ (e : Ending). IsReadEnd (g.R.Source.fault_count c.args.source.now) (g.R.Source.fault_count c.read.new.source) (g.R.Source.left c.args.source.now) (Err e)) (sym (ap ending_of c.without_commands.ensures.ending)) c.in-Err.ensures.ending)
-    (ap (device_of g.D.Device.pages g.D.Device.clock g.D.Device.fault_count g.D.Device.story) c.without_commands.ensures.device) c.without_commands.ensures.acks
+    (ap (g.D.Device.seen) c.without_commands.ensures.device) c.without_commands.ensures.acks

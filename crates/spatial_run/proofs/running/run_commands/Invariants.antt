@@ -8,8 +8,8 @@ use Rattle.spatial_run.proofs.running.run_commands.Given as goal
 
 abbrev pub invariant-loop-command : goal.invariant-loop-command
 invariant-loop-command g l = record {
-  made : MadeAll (state_of g.D.Device.pages g.D.Device.clock g.D.Device.fault_count g.D.Device.story l.fn.store) (state_of g.D.Device.pages g.D.Device.clock g.D.Device.fault_count g.D.Device.story l.store)
+  made : MadeAll (state_of g.D.Device.seen l.fn.store) (state_of g.D.Device.seen l.store)
       (commands_of (take l.command-index l.commands)) (outcomes_of l.outcomes.items) l.refusals;
-  serving : IsServing (state_of g.D.Device.pages g.D.Device.clock g.D.Device.fault_count g.D.Device.story l.store);
+  serving : IsServing (state_of g.D.Device.seen l.store);
   room : length l.commands ≤ l.command-index + l.outcomes.spare;
 }

@@ -3,4 +3,4 @@ use Rattle.store_core.specs.Stores.{state_of}
 use Rattle.store_cases.proofs.steps.take_all.Given as goal
 
 abbrev pub invariant-loop-step : goal.invariant-loop-step
-invariant-loop-step g l = IsReady (state_of g.D.Device.pages g.D.Device.clock g.D.Device.fault_count g.D.Device.story l.store)
+invariant-loop-step g l = IsReady (state_of g.D.Device.seen l.store)

@@ -5,7 +5,7 @@ use Rattle.store_core.specs.Stores.{state_of}
 use Rattle.store_cases.proofs.steps.write_pages.Given as goal
 
 abbrev pub invariant-loop-store : goal.invariant-loop-store
-invariant-loop-store g l = IsReady (state_of g.D.Device.pages g.D.Device.clock g.D.Device.fault_count g.D.Device.story l.store) × IsJobOf l.store.state.0 7 l.job
+invariant-loop-store g l = IsReady (state_of g.D.Device.seen l.store) × IsJobOf l.store.state.0 7 l.job
 
 abbrev pub decreases-loop-store : goal.decreases-loop-store
 decreases-loop-store g l = steps_left l.job

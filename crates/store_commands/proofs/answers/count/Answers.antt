@@ -9,11 +9,11 @@ use Rattle.store_commands.proofs.answers.count.Goals as goal
 
 pub returns : goal.returns
 returns g c =
-    let alone : IsOneEvent (state_of g.D.Device.pages g.D.Device.clock g.D.Device.fault_count g.D.Device.story c.args.store.now) (state_of g.D.Device.pages g.D.Device.clock g.D.Device.fault_count g.D.Device.story c.count.new.self) c.args.owner count (answered c.count.result.0 (counted c.count.result.1)) =
-    one-event (state_of g.D.Device.pages g.D.Device.clock g.D.Device.fault_count g.D.Device.story c.args.store.now) (state_of g.D.Device.pages g.D.Device.clock g.D.Device.fault_count g.D.Device.story c.count.new.self) c.args.owner (action.Count c.count.result.0 c.count.result.1) count (answered c.count.result.0 (counted c.count.result.1)) c.count.ensures.event (refl, refl) in
+    let alone : IsOneEvent (state_of g.D.Device.seen c.args.store.now) (state_of g.D.Device.seen c.count.new.self) c.args.owner count (answered c.count.result.0 (counted c.count.result.1)) =
+    one-event (state_of g.D.Device.seen c.args.store.now) (state_of g.D.Device.seen c.count.new.self) c.args.owner (action.Count c.count.result.0 c.count.result.1) count (answered c.count.result.0 (counted c.count.result.1)) c.count.ensures.event (refl, refl) in
     record {
-      done = done-one (state_of g.D.Device.pages g.D.Device.clock g.D.Device.fault_count g.D.Device.story c.args.store.now) (state_of g.D.Device.pages g.D.Device.clock g.D.Device.fault_count g.D.Device.story c.count.new.self) c.args.owner count (answered c.count.result.0 (counted c.count.result.1)) alone;
+      done = done-one (state_of g.D.Device.seen c.args.store.now) (state_of g.D.Device.seen c.count.new.self) c.args.owner count (answered c.count.result.0 (counted c.count.result.1)) alone;
       alone = alone;
-      serving = serving-after (state_of g.D.Device.pages g.D.Device.clock g.D.Device.fault_count g.D.Device.story c.args.store.now) (state_of g.D.Device.pages g.D.Device.clock g.D.Device.fault_count g.D.Device.story c.count.new.self) c.args.owner (action.Count c.count.result.0 c.count.result.1) c.requires.serving c.count.ensures.event
+      serving = serving-after (state_of g.D.Device.seen c.args.store.now) (state_of g.D.Device.seen c.count.new.self) c.args.owner (action.Count c.count.result.0 c.count.result.1) c.requires.serving c.count.ensures.event
           (c.count.ensures.ready c.requires.serving.ready) (λ m. refl);
     }

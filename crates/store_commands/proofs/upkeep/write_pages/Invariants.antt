@@ -8,11 +8,11 @@ use Rattle.store_commands.proofs.upkeep.write_pages.Given as goal
 
 abbrev pub invariant-loop-store : goal.invariant-loop-store
 invariant-loop-store g l = record {
-  ready : IsReady (state_of g.D.Device.pages g.D.Device.clock g.D.Device.fault_count g.D.Device.story l.store);
-  standing : IsStanding (state_of g.D.Device.pages g.D.Device.clock g.D.Device.fault_count g.D.Device.story l.store);
+  ready : IsReady (state_of g.D.Device.seen l.store);
+  standing : IsStanding (state_of g.D.Device.seen l.store);
   begun : IsJobOf l.store.state.0 l.owner l.job;
   log : l.store.log ≡ l.fn.store.log;
-  upkeep : KeepsUp (state_of g.D.Device.pages g.D.Device.clock g.D.Device.fault_count g.D.Device.story l.fn.store) (state_of g.D.Device.pages g.D.Device.clock g.D.Device.fault_count g.D.Device.story l.store) l.owner (Ok tt);
+  upkeep : KeepsUp (state_of g.D.Device.seen l.fn.store) (state_of g.D.Device.seen l.store) l.owner (Ok tt);
 }
 
 abbrev pub decreases-loop-store : goal.decreases-loop-store

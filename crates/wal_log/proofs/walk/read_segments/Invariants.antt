@@ -9,11 +9,11 @@ use Rattle.wal_log.proofs.walk.read_segments.Given as goal
 
 abbrev pub invariant-loop-i : goal.invariant-loop-i
 invariant-loop-i g l = record {
-  reads : WhereTold (g.D.Device.story l.fn.device) (λ s. ReadsLog l.log_start s (g.D.Device.story l.device));
-  heads : WhereTold (g.D.Device.story l.fn.device) (λ s. IsStill l.log_start s → l.heads.in_order.items ≡ open_heads l.log_start (bytes_of s));
-  walked : WhereTold (g.D.Device.story l.fn.device) (λ s. IsStill l.log_start s → Walked l.log_start l.ends (bytes_of s) l.heads.in_order.items l.i l.before l.records.items);
+  reads : WhereTold (g.D.Device.seen l.fn.device).story (λ s. ReadsLog l.log_start s (g.D.Device.seen l.device).story);
+  heads : WhereTold (g.D.Device.seen l.fn.device).story (λ s. IsStill l.log_start s → l.heads.in_order.items ≡ open_heads l.log_start (bytes_of s));
+  walked : WhereTold (g.D.Device.seen l.fn.device).story (λ s. IsStill l.log_start s → Walked l.log_start l.ends (bytes_of s) l.heads.in_order.items l.i l.before l.records.items);
   ended : HasEndedBefore l.before;
   unfinished : (l.i ≡ 0) ⊎ (l.i < length l.heads.in_order.items);
-  same_pages : g.D.Device.pages l.device ≡ g.D.Device.pages l.fn.device;
-  faults : g.D.Device.fault_count l.fn.device ≤ g.D.Device.fault_count l.device;
+  same_pages : (g.D.Device.seen l.device).pages ≡ (g.D.Device.seen l.fn.device).pages;
+  faults : (g.D.Device.seen l.fn.device).faults ≤ (g.D.Device.seen l.device).faults;
 }

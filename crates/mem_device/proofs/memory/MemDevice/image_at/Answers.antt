@@ -1,7 +1,8 @@
 use Rattle.std.proofs.Common.{◌≡◌, ℕ, List, length, min, slice_index, rules, sym, ◌∙◌, ap, subst, arith}
 use Rattle.std.proofs.lemmas.List.{with_items_is}
 use Rattle.dev_model.specs.Story.{Bytes, IsImage}
-use Rattle.mem_device.specs.Memory.{MemoryState, place, story_of}
+use Rattle.mem_device.specs.Memory.{MemoryState, story_of}
+use Rattle.dev_model.specs.Story.{place}
 use Rattle.mem_device.specs.TornImages.{image_at}
 use Rattle.mem_device.proofs.Allowed.{image_at-IsImage}
 use Rattle.mem_device.proofs.Images.{image_at-with_missed}
@@ -23,4 +24,4 @@ returns-clause-image c i =
 pub returns-clause-allowed : goal.returns-clause-allowed
 returns-clause-allowed c =
     let now = c.args.self.now in
-    subst (IsImage (story_of now) c.args.moment) (λ j i. sym (returns-clause-image c i) j) (image_at-IsImage c.args.torn (place now.start) now.past c.args.moment)
+    subst (IsImage (story_of now) c.args.moment) (λ j i. sym (returns-clause-image c i) j) (image_at-IsImage c.args.torn now.start now.past c.args.moment)

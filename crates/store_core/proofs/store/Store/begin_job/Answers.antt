@@ -9,11 +9,11 @@ use Rattle.store_core.proofs.store.Store.begin_job.Goals as goal
 
 pub returns-in-Some-clause-event : goal.returns-in-Some-clause-event
 returns-in-Some-clause-event g c =
-    begin-stopped (state_of g.D.Device.pages g.D.Device.clock g.D.Device.fault_count g.D.Device.story c.args.self.now) c.args.owner c.in-Some.faults c.in-Some.is
+    begin-stopped (state_of g.D.Device.seen c.args.self.now) c.args.owner c.in-Some.faults c.in-Some.is
 
 pub returns-in-Ok-clause-event : goal.returns-in-Ok-clause-event
 returns-in-Ok-clause-event g c =
-    let old : StoreState = state_of g.D.Device.pages g.D.Device.clock g.D.Device.fault_count g.D.Device.story c.args.self.now in
+    let old : StoreState = state_of g.D.Device.seen c.args.self.now in
     began old c.begin.new.self.0 c.args.owner c.in-Ok.job c.in_default.is c.in-Ok.ensures.begins
     (record {
       kept = λ table s row kept fresh. c.begun_job_is_kept.ensures.kept old.device.pages old.log table old.lists s row kept fresh;
@@ -22,7 +22,7 @@ returns-in-Ok-clause-event g c =
 
 pub returns-in-Err-clause-event : goal.returns-in-Err-clause-event
 returns-in-Err-clause-event g c =
-    let old : StoreState = state_of g.D.Device.pages g.D.Device.clock g.D.Device.fault_count g.D.Device.story c.args.self.now in
+    let old : StoreState = state_of g.D.Device.seen c.args.self.now in
     let new : StoreState = record old { lists = c.begin.new.self.0 } in
     subst (λ (r : Refusal). Makes old new c.args.owner (Begin (Err r))) (sym c.refused_begin.ensures)
     (begin-refused old c.begin.new.self.0 c.args.owner old.log.records c.in-Err.fault c.in_default.is c.in-Err.ensures.begins (λ i. old.log.records))

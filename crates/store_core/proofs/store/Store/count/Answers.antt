@@ -5,6 +5,6 @@ use Rattle.store_core.proofs.store.Store.count.Goals as goal
 
 pub returns-clause-event : goal.returns-clause-event
 returns-clause-event g c =
-    counted-as (state_of g.D.Device.pages g.D.Device.clock g.D.Device.fault_count g.D.Device.story c.args.self.now)
-    (state_of g.D.Device.pages g.D.Device.clock g.D.Device.fault_count g.D.Device.story c.draw.new.self) c.args.owner c.draw.result c.rows-rows.result
-    c.draw.ensures.seq (ap (state_of g.D.Device.pages g.D.Device.clock g.D.Device.fault_count g.D.Device.story) c.draw.ensures.rest) c.rows-rows.ensures
+    counted-as (state_of g.D.Device.seen c.args.self.now)
+    (state_of g.D.Device.seen c.draw.new.self) c.args.owner c.draw.result c.rows-rows.result
+    c.draw.ensures.seq (ap (state_of g.D.Device.seen) c.draw.ensures.rest) c.rows-rows.ensures

@@ -1,24 +1,24 @@
 use Rattle.std.proofs.Common.{Err, ap, refl, sym, subst, arith}
 use Rattle.store_machine.specs.Calls.{Makes}
 use Rattle.store_machine.specs.Standing.{StoreState}
-use Rattle.store_machine.specs.Devices.{DeviceState}
+use Rattle.dev_model.specs.Story.{DeviceState}
 use Rattle.store_machine.specs.declared.events.Action.TheVariants.{JobWrite}
 use Rattle.store_machine.specs.declared.events.Refusal.{Refusal}
 use Rattle.store_state.specs.Lists.{Lists}
 use Rattle.store_state.specs.Reading.{IsLegible}
-use Rattle.store_core.specs.Stores.{device_of, state_of}
+use Rattle.store_core.specs.Stores.{state_of}
 use Rattle.store_core.proofs.WorkEvents.{IsStep, after-stop, page-failed, write-stopped, wrote-page}
 use Rattle.store_core.proofs.store.Store.job_write.Goals as goal
 
 pub returns-in-Some-clause-event : goal.returns-in-Some-clause-event
 returns-in-Some-clause-event g c =
-    let old : StoreState = state_of g.D.Device.pages g.D.Device.clock g.D.Device.fault_count g.D.Device.story c.args.self.now in
+    let old : StoreState = state_of g.D.Device.seen c.args.self.now in
     write-stopped old c.args.owner c.in-Some.faults c.args.job.now c.requires.begun c.requires.left c.in-Some.is
 
 pub returns-in-Ok-clause-event : goal.returns-in-Ok-clause-event
 returns-in-Ok-clause-event g c =
-    let old : StoreState = state_of g.D.Device.pages g.D.Device.clock g.D.Device.fault_count g.D.Device.story c.args.self.now in
-    let now : DeviceState = device_of g.D.Device.pages g.D.Device.clock g.D.Device.fault_count g.D.Device.story c.write_job_page.new.device in
+    let old : StoreState = state_of g.D.Device.seen c.args.self.now in
+    let now : DeviceState = g.D.Device.seen c.write_job_page.new.device in
     let step : IsStep old now = record {
       going = c.in_default.is;
       pages = c.write_job_page.ensures.same_pages;
@@ -31,9 +31,9 @@ returns-in-Ok-clause-event g c =
 
 pub returns-in-Err-clause-event : goal.returns-in-Err-clause-event
 returns-in-Err-clause-event g c =
-    let old : StoreState = state_of g.D.Device.pages g.D.Device.clock g.D.Device.fault_count g.D.Device.story c.args.self.now in
-    let now : DeviceState = device_of g.D.Device.pages g.D.Device.clock g.D.Device.fault_count g.D.Device.story c.write_job_page.new.device in
-    let new : StoreState = state_of g.D.Device.pages g.D.Device.clock g.D.Device.fault_count g.D.Device.story c.stop.new.self in
+    let old : StoreState = state_of g.D.Device.seen c.args.self.now in
+    let now : DeviceState = g.D.Device.seen c.write_job_page.new.device in
+    let new : StoreState = state_of g.D.Device.seen c.stop.new.self in
     let step : IsStep old now = record {
       going = c.in_default.is;
       pages = c.write_job_page.ensures.same_pages;
@@ -44,7 +44,7 @@ returns-in-Err-clause-event g c =
     subst (λ (r : Refusal). Makes old new c.args.owner (JobWrite (record { owner = c.args.owner; job = c.args.job.now }) (Err r))) (sym c.stop.ensures.fault)
     (page-failed old new now c.args.owner c.args.job.now _ c.in-Err.ensures.did.0
     (after-stop old new now c.args.self.now.log c.write_job_page.new.state.0 refl (ap (λ s. s.0) c.in-Err.ensures.unchanged.0)
-    (ap (state_of g.D.Device.pages g.D.Device.clock g.D.Device.fault_count g.D.Device.story) c.stop.ensures.stopped))
+    (ap (state_of g.D.Device.seen) c.stop.ensures.stopped))
     step c.requires.begun c.requires.left c.in-Err.ensures.did.3
     (λ table disk s told legible t told_now. subst (λ (l : Lists). IsLegible table disk l t) (ap (λ s. s.0) c.in-Err.ensures.unchanged.0) (c.write_job_page.ensures.legible table disk s told legible t told_now))
     c.in-Err.ensures.cause.failed)

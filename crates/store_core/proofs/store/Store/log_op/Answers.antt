@@ -6,18 +6,18 @@ use Rattle.wal_log.specs.Records.{record_bytes}
 use Rattle.primary_ix.specs.declared.rows.PrimRow.{PrimRow}
 use Rattle.component_image.specs.Told.{SaysOld}
 use Rattle.store_machine.specs.Standing.{StoreState}
-use Rattle.store_machine.specs.Devices.{DeviceState}
+use Rattle.dev_model.specs.Story.{DeviceState}
 use Rattle.store_state.specs.Lists.{Lists}
 use Rattle.store_state.specs.Reading.{IsLegible}
 use Rattle.kept_state.specs.Writing.{next_record}
 use Rattle.store_machine.specs.Laws.Logging.{LogsAll, LogFails}
-use Rattle.store_core.specs.Stores.{state_of, device_of}
+use Rattle.store_core.specs.Stores.{state_of}
 use Rattle.store_core.proofs.store.Store.log_op.Goals as goal
 
 pub returns-in-Ok-clause-logged : goal.returns-in-Ok-clause-logged
 returns-in-Ok-clause-logged g c =
-    let old : StoreState = state_of g.D.Device.pages g.D.Device.clock g.D.Device.fault_count g.D.Device.story c.args.self.now in
-    let now : DeviceState = device_of g.D.Device.pages g.D.Device.clock g.D.Device.fault_count g.D.Device.story c.log_write.new.device in
+    let old : StoreState = state_of g.D.Device.seen c.args.self.now in
+    let now : DeviceState = g.D.Device.seen c.log_write.new.device in
     record {
       all = subst (λ (p : Option Point). LogsAll old now c.args.op.now (next_record old.log c.args.op.now p) (is_some p) c.log_write.new.log c.log_write.new.state.0 c.in-Ok.ack) c.old_point.ensures
           (record {
@@ -53,8 +53,8 @@ returns-in-Ok-clause-ready g c = record {
 
 pub returns-in-Err-clause-fails : goal.returns-in-Err-clause-fails
 returns-in-Err-clause-fails g c =
-    let old : StoreState = state_of g.D.Device.pages g.D.Device.clock g.D.Device.fault_count g.D.Device.story c.args.self.now in
-    let now : DeviceState = device_of g.D.Device.pages g.D.Device.clock g.D.Device.fault_count g.D.Device.story c.log_write.new.device in
+    let old : StoreState = state_of g.D.Device.seen c.args.self.now in
+    let now : DeviceState = g.D.Device.seen c.log_write.new.device in
     record {
       fails = subst (λ (p : Option Point). LogFails old now c.args.op.now (next_record old.log c.args.op.now p)) c.old_point.ensures
           (record {

@@ -8,5 +8,5 @@ overflow_cast-result g c = omega (arith, c.requires.ready.counted.few)
 
 pub returns : goal.returns
 returns g c = record {
-  event = looked (state_of g.D.Device.pages g.D.Device.clock g.D.Device.fault_count g.D.Device.story c.args.self.now) c.args.owner _ refl c.is_frozen.ensures refl c.placed.ensures c.saturating_sub.ensures;
+  event = looked (state_of g.D.Device.seen c.args.self.now) c.args.owner _ refl c.is_frozen.ensures refl c.placed.ensures c.saturating_sub.ensures;
 }

@@ -2,13 +2,12 @@ use Rattle.std.specs.Prelude.{[]}
 use Rattle.std.proofs.Common.{sym, subst}
 use Rattle.store_machine.specs.Standing.{StoreState, StandsSince}
 use Rattle.store_machine.specs.Laws.Opening.{opens-from}
-use Rattle.store_core.specs.Stores.{device_of}
 use Rattle.store_core.proofs.store.Store.open.Goals as goal
 
 pub returns-in-Ok-clause-stands : goal.returns-in-Ok-clause-stands
 returns-in-Ok-clause-stands g c =
-    subst (λ (s : StoreState). StandsSince (device_of g.D.Device.pages g.D.Device.clock g.D.Device.fault_count g.D.Device.story c.args.device) s []) (sym c.of_opened.ensures)
-    (opens-from (device_of g.D.Device.pages g.D.Device.clock g.D.Device.fault_count g.D.Device.story c.args.device)
-    (device_of g.D.Device.pages g.D.Device.clock g.D.Device.fault_count g.D.Device.story c.open_state.new.device)
+    subst (λ (s : StoreState). StandsSince (g.D.Device.seen c.args.device) s []) (sym c.of_opened.ensures)
+    (opens-from (g.D.Device.seen c.args.device)
+    (g.D.Device.seen c.open_state.new.device)
     c.in-Ok.opened.indexes c.in-Ok.opened.log c.in-Ok.opened.state.0 c.in-Ok.ensures.same_pages (g.met.D.Device.clock_told c.open_state.new.device) c.open_state.ensures.later c.in-Ok.ensures.reads
     c.in-Ok.ensures.opens c.in-Ok.ensures.kept)

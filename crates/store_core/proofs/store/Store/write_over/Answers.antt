@@ -6,21 +6,21 @@ use Rattle.store_core.proofs.store.Store.write_over.Goals as goal
 
 pub returns-in-Ok-clause-event : goal.returns-in-Ok-clause-event
 returns-in-Ok-clause-event g c before owner was =
-    let mid : StoreState = state_of g.D.Device.pages g.D.Device.clock g.D.Device.fault_count g.D.Device.story c.args.self.now in
-    let logged : StoreState = state_of g.D.Device.pages g.D.Device.clock g.D.Device.fault_count g.D.Device.story c.log_op.new.self in
+    let mid : StoreState = state_of g.D.Device.seen c.args.self.now in
+    let logged : StoreState = state_of g.D.Device.seen c.log_op.new.self in
     wrote-logged before mid logged _ owner c.args.op.now c.args.row.now _ c.in-Ok.ack was c.requires.can c.requires.logs c.in-Ok.ensures.logged
-    (ap (state_of g.D.Device.pages g.D.Device.clock g.D.Device.fault_count g.D.Device.story) c.draw-seq.ensures.rest)
+    (ap (state_of g.D.Device.seen) c.draw-seq.ensures.rest)
     c.draw-seq.ensures.seq c.matter_of-old.ensures
-    (ap (λ (s : StoreState). s.log.records) (ap (state_of g.D.Device.pages g.D.Device.clock g.D.Device.fault_count g.D.Device.story) c.draw-seq.ensures.rest))
+    (ap (λ (s : StoreState). s.log.records) (ap (state_of g.D.Device.seen) c.draw-seq.ensures.rest))
     refl
 
 pub returns-in-Err-clause-event : goal.returns-in-Err-clause-event
 returns-in-Err-clause-event g c before owner was =
-    let mid : StoreState = state_of g.D.Device.pages g.D.Device.clock g.D.Device.fault_count g.D.Device.story c.args.self.now in
+    let mid : StoreState = state_of g.D.Device.seen c.args.self.now in
     not-logged before mid _ owner c.args.op.now c.args.row.now was c.requires.can c.in-Err.ensures.fails
 
 pub returns-in-Ok-clause-logged : goal.returns-in-Ok-clause-logged
 returns-in-Ok-clause-logged g c = record {
   width = c.in-Ok.ensures.logged.width;
-  did = ap (λ (s : StoreState). s.device.story) (ap (state_of g.D.Device.pages g.D.Device.clock g.D.Device.fault_count g.D.Device.story) c.draw-seq.ensures.rest) ∙ c.in-Ok.ensures.logged.all.did;
+  did = ap (λ (s : StoreState). s.device.story) (ap (state_of g.D.Device.seen) c.draw-seq.ensures.rest) ∙ c.in-Ok.ensures.logged.all.did;
 }
