@@ -27,7 +27,6 @@ use Rattle.store_state.specs.Lists.{extents_of, trees_of}
 use Rattle.store_state.specs.OnlyRead.{HasRead}
 use Rattle.kept_state.specs.Writing.{next_record}
 use Rattle.store_machine.specs.Laws.LogCalls.{append-calls}
-use Rattle.store_machine.specs.Runs.{log_calls}
 use Rattle.store_machine.specs.Standing.{StoreState}
 use Rattle.dev_model.specs.Story.{DeviceState}
 use Rattle.store_machine.specs.declared.events.Refusal.{Refusal}

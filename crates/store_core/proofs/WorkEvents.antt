@@ -1,7 +1,6 @@
 -- The events of freezes, jobs and installs.
 use Rattle.std.proofs.Common.{◌≡◌, ◌≢◌, ◌⊎◌, inl, inr, ℕ, suc, ◌+◌, ◌-◌, ◌*◌, ◌<◌, ◌≤◌, Bool, true, false, List, [], ◌∷◌, ◌++◌, length, Option, Some, None, Ok, Err, is_some, refl, sym, ◌∙◌, ap, subst, arith}
 use Rattle.std.proofs.lemmas.List.{length-append}
-use Rattle.std.proofs.lemmas.Option.{same_Some}
 use Rattle.dev_model.specs.Counts.{Rose}
 use Rattle.dev_model.specs.Story.{Calls, Story, WhereTold, Write, clock_of}
 use Rattle.dev_model.specs.Doing.{HasStoppedIn, all_noted}

@@ -1,6 +1,4 @@
 -- What there is to see of a store on a device.
-use Rattle.std.specs.Prelude.{ℕ, Option}
-use Rattle.dev_model.specs.Story.{Story}
 use Rattle.store_machine.specs.Standing.{StoreState}
 use Rattle.dev_model.specs.Story.{DeviceState}
 use Rattle.store_core.specs.declared.store.Store.{Store}

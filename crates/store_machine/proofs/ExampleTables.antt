@@ -1,16 +1,11 @@
 -- The tables of the worked examples. A finite map computes through what it says of its entries.
-use Rattle.std.proofs.Common.{◌≡◌, ℕ, ◌==◌, Bool, true, false, if◌then◌else◌, length, [], ◌∷◌, refl, ap, subst, sym, ◌∙◌, arith, Option, Some, None}
-use Rattle.std.proofs.lemmas.Bool.Decides.{nat_tests}
+use Rattle.std.proofs.Common.{◌≡◌, Bool, length, [], ◌∷◌, ap, sym, ◌∙◌, Some, None}
 use Rattle.std.specs.Prelude.{is_some, cond, map, ◌-◌}
-use Rattle.std.specs.Option.{option_map, option_or}
-use Rattle.std.specs.Ordering.{nat_cmp, eq_by_cmp}
+use Rattle.std.specs.Option.{option_map}
+use Rattle.std.specs.Ordering.{nat_cmp}
 use Rattle.std.specs.Cmp.{nat_cmp_total, unsigned_tied}
 use Rattle.std.specs.FinMap.{empty, insert, remove, get, len, entries, find, put, entries-insert, entries-from_sorted, from_sorted, empty_of_len, len-entries, len-remove, get-empty, get-entries, get-insert}
-use Rattle.order_merge.specs.Entries.{entry_at, newest_at}
-use Rattle.order_merge.specs.Fitting.{Fits, unless_anti}
-use Rattle.primary_ix.specs.Reading.{prim_reading}
-use Rattle.primary_ix.specs.Wanted.{matter_row, table_row, wanted_rows}
-use Rattle.primary_ix.specs.declared.rows.PrimRow.{PrimRow}
+use Rattle.primary_ix.specs.Wanted.{table_row}
 use Rattle.table_model.specs.Table.{Place, Table, place_of, row_at, rows_of}
 use Rattle.store_machine.specs.Examples.{eight, seven}
 

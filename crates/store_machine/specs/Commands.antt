@@ -5,7 +5,7 @@ use Rattle.std.specs.List.{flat_map}
 use Rattle.std.specs.Option.{option_map, option_to_list}
 use Rattle.geo_base.specs.declared.points.Point.{Point}
 use Rattle.table_model.specs.Table.{place_of}
-use Rattle.table_model.specs.Commands.{put, del, TableCommand, write, get, count, region, Command, on_table, flush, WriteReply, wrote, got, counted, rows, Outcome, answered, quiet, refused}
+use Rattle.table_model.specs.Commands.{TableCommand, write, get, count, region, Command, on_table, flush, WriteReply, wrote, got, counted, rows, Outcome, answered, quiet, refused}
 use Rattle.table_model.specs.Answers.{put_reply, del_reply}
 use Rattle.table_model.specs.declared.Why.{Why}
 use Rattle.table_model.specs.declared.Why.TheVariants as why

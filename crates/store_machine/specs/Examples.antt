@@ -3,6 +3,7 @@
 use Rattle.std.specs.Prelude.{ℕ, ◌+◌, Bool, true, false, List, [], ◌∷◌, ◌++◌, Option, Some, None, Ok, Err, codes}
 use Rattle.std.specs.FinMap.{empty, insert}
 use Rattle.dev_model.specs.DeviceCalls.{made_at}
+use Rattle.dev_model.specs.Story as story
 use Rattle.dev_model.specs.Story.{Read, Story, patched}
 use Rattle.dev_model.specs.declared.calls.DeviceCall.{DeviceCall}
 use Rattle.dev_model.specs.declared.calls.DeviceAct.TheVariants.{ReadAt, WriteAt, SyncAll}
@@ -274,13 +275,13 @@ read_both = got 0 (Some seven) (page_read 20 1089536 ++ page_read 21 1085440) 22
 abbrev pub read_newest : List Event
 read_newest = got 0 (Some seven) (page_read 20 1089536) 21 ∷ []
 
--- The same from clock 0 on, on bytes in which page 266 is a leaf without a row, and page 265 isn't one. Both are read.
+-- The same from clock 1 on, after a write that made page 266 a leaf without a row; page 265 isn't one. Both are read.
 abbrev pub two_at_first : Opening
-two_at_first = record two_components { clock = 0 }
+two_at_first = record two_components { clock = 1 }
 
 abbrev pub one_leaf : Story
-one_leaf = record { start = patched 1089536 (PRIMARY_LEAF ∷ []) (λ _. 0); past = Read 1085440 4096 ∷ Read 1089536 4096 ∷ [] }
+one_leaf = record { start = []; past = Read 1085440 4096 ∷ Read 1089536 4096 ∷ story.Write 1089536 (PRIMARY_LEAF ∷ []) ∷ [] }
 
 -- a get of key 7 that answers at this clock that a page is damaged
 abbrev pub damaged_read : (page clock : ℕ) → List Event
-damaged_read page clock = damaged_get page (page_read 0 1089536 ++ page_read 1 1085440) clock ∷ []
+damaged_read page clock = damaged_get page (page_read 1 1089536 ++ page_read 2 1085440) clock ∷ []

@@ -1,5 +1,5 @@
 -- The machine of a store that flushes: its state, and what an event does to it.
-use Rattle.std.specs.Prelude.{ℕ, ◌+◌, ◌-◌, Bool, true, false, List, [], ◌∷◌, ◌++◌, Option, Some, None, is_some, Ok, Err, if◌then◌else◌, set}
+use Rattle.std.specs.Prelude.{ℕ, ◌+◌, ◌-◌, Bool, true, List, [], ◌∷◌, ◌++◌, Option, Some, None, is_some, Ok, if◌then◌else◌, set}
 use Rattle.dev_model.specs.Counts.{next_count}
 use Rattle.dev_model.specs.Story.{Story}
 use Rattle.dev_model.specs.declared.calls.DeviceCall.{DeviceCall}
@@ -20,7 +20,7 @@ use Rattle.store_state.specs.declared.jobs.JobRow.{JobRow}
 use Rattle.store_machine.specs.declared.events.OwnedJob.{OwnedJob}
 use Rattle.store_machine.specs.declared.events.Wrote.{Wrote}
 use Rattle.store_machine.specs.declared.events.Action.{Action}
-use Rattle.store_machine.specs.declared.events.Action.TheVariants.{Write, Get, Count, Look, Region, Freeze, Begin, JobWrite, Install}
+use Rattle.store_machine.specs.declared.events.Action.TheVariants.{Write, Get, Count, Region, Freeze, Begin, JobWrite, Install}
 use Rattle.store_machine.specs.declared.events.Event.{Event}
 
 pub record Machine : Type 0 where

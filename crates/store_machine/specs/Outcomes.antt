@@ -1,5 +1,5 @@
 -- What an outcome says was logged of its command.
-use Rattle.std.specs.Prelude.{ℕ, List, [], ◌∷◌, ◌++◌}
+use Rattle.std.specs.Prelude.{List, [], ◌∷◌, ◌++◌}
 use Rattle.table_model.specs.Table.{Table}
 use Rattle.table_model.specs.Commands.{Write as TableWrite, put, del, Command, on_table, write, del_old, wrote, Outcome, answered}
 use Rattle.image_model.specs.Recovered.{after_writes}

@@ -25,7 +25,7 @@ use Rattle.store_machine.specs.declared.events.Refusal.TheVariants.{Fault, NoInd
 use Rattle.store_state.specs.Lists.{Lists, extents_of, trees_of}
 use Rattle.store_machine.specs.Needs.{Needs}
 use Rattle.store_machine.specs.declared.events.Action.{Action}
-use Rattle.store_machine.specs.declared.events.Action.TheVariants.{Write, Get, Count, Look, Region, Freeze, Begin, JobWrite, Install}
+use Rattle.store_machine.specs.declared.events.Action.TheVariants.{Write, Get, Region, Freeze, Begin, JobWrite, Install}
 use Rattle.store_machine.specs.declared.events.Event.{Event}
 
 -- the pages that a reader asks for, by the lists of the components and the levels of their roots

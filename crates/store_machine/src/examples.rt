@@ -65,8 +65,8 @@ pub fn worked_commands()
 /// Worked answers that a page is damaged, on bytes in which one page of two components is a leaf and the other one isn't; and
 /// answers that have no cause: the page is one for its place, no component has the page, or the clock is still to come.
 pub fn worked_damages()
-    ensures none_for_its_place { DamagesAre (at_opening two_at_first) one_leaf (damaged_read 265 2) }
-    ensures page_for_its_place { DamagesAre (at_opening two_at_first) one_leaf (damaged_read 266 2) → ⊥ }
-    ensures page_of_no_component { DamagesAre (at_opening two_at_first) one_leaf (damaged_read 264 2) → ⊥ }
-    ensures clock_to_come { DamagesAre (at_opening two_at_first) one_leaf (damaged_read 265 3) → ⊥ }
+    ensures none_for_its_place { DamagesAre (at_opening two_at_first) one_leaf (damaged_read 265 3) }
+    ensures page_for_its_place { DamagesAre (at_opening two_at_first) one_leaf (damaged_read 266 3) → ⊥ }
+    ensures page_of_no_component { DamagesAre (at_opening two_at_first) one_leaf (damaged_read 264 3) → ⊥ }
+    ensures clock_to_come { DamagesAre (at_opening two_at_first) one_leaf (damaged_read 265 4) → ⊥ }
 {}

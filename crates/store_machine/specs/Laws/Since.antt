@@ -1,5 +1,5 @@
 -- What a store stands for since it was opened, as its reader sees it. No public contract needs these laws.
-use Rattle.std.proofs.Common.{◌≡◌, ℕ, true, List, Some, None, refl, sym, ◌∙◌, ap, subst}
+use Rattle.std.proofs.Common.{◌≡◌, true, List, Some, refl, ◌∙◌, ap, subst}
 use Rattle.dev_model.specs.Story.{Story, after}
 use Rattle.table_model.specs.Table.{Table}
 use Rattle.primary_ix.specs.declared.rows.PrimRow.{PrimRow}

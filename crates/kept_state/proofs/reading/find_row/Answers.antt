@@ -21,7 +21,7 @@ returns-in-Some-clause-asked g c = (
 pub returns-clause-found : goal.returns-clause-found
 returns-clause-found g c disk shown =
     let lends = c.new-pages.ensures.extents ∙ c.extents.ensures.extents in
-    let begins = ap g.D.Device.story c.new-pages.ensures.untouched in
+    let begins = ap (λ d. (g.D.Device.seen d).story) c.new-pages.ensures.untouched in
     found-as c.lookup_disk.result _ _ _
     (found-disk c.args.state.now.0.active c.args.state.now.0.frozen c.args.key c.in_default.ensures disk)
     (c.lookup_disk.ensures.found disk (shown-there _ _ lends _ _ begins _ _ c.components-components.ensures.trees disk shown))
@@ -30,7 +30,7 @@ pub returns-clause-asked : goal.returns-clause-asked
 returns-clause-asked g c =
     let asked = c.lookup_disk.ensures.asked in
     let lends = c.new-pages.ensures.extents ∙ c.extents.ensures.extents in
-    let begins = ap g.D.Device.story c.new-pages.ensures.untouched in
+    let begins = ap (λ d. (g.D.Device.seen d).story) c.new-pages.ensures.untouched in
     let are = c.components-components.ensures.trees in (
       asked.0,
       read-lent c.args.state.now.0 g.D.Device.seen g.met.D.Device.clock_told c.new-pages.result.extents.now

@@ -15,7 +15,7 @@ returns-clause-asked g c =
     let D = g.D.Device in
     let asked = c.living_rows.ensures.asked in
     let lends = c.new-lent.ensures.extents ∙ c.extents.ensures.extents in
-    let begins = ap D.story c.new-lent.ensures.untouched in
+    let begins = ap (λ d. (D.seen d).story) c.new-lent.ensures.untouched in
     let are = c.components-components.ensures.trees in (
       asked.0,
       read-lent c.args.state.now.0 D.seen g.met.D.Device.clock_told c.new-lent.result.extents.now

@@ -1,7 +1,7 @@
-use Rattle.std.proofs.Common.{◌≡◌, ◌⊎◌, inl, inr, ℕ, zero, suc, ◌+◌, ◌*◌, ◌<◌, ◌≤◌, List, [], ◌∷◌, length, map, Some, refl, sym, ◌∙◌, ap, subst, arith}
+use Rattle.std.proofs.Common.{◌≡◌, ◌⊎◌, inl, inr, ℕ, zero, suc, ◌+◌, ◌*◌, ◌<◌, ◌≤◌, List, [], ◌∷◌, length, map, refl, sym, ◌∙◌, ap, subst, arith}
 use Rattle.std.proofs.lemmas.Option.{same_Some}
 use Rattle.std.specs.Prelude.{drop, slice_index, slice_index_or}
-use Rattle.dev_model.specs.Story.{Calls, Story, IsReadable, after, bytes_of, clock_of}
+use Rattle.dev_model.specs.Story.{place, Calls, Story, IsReadable, after, bytes_of, clock_of}
 use Rattle.dev_model.specs.Laws.CallLists.{clock_of-after}
 use Rattle.dev_model.specs.Laws.Ranges.{get_or-part, patched-outside}
 use Rattle.page_codec.specs.Page.{most_rows, row_count, row_width, rows_in, rows_on}
@@ -29,7 +29,7 @@ abbrev trees : List PrimComp
 trees = trees_of two_at_first.lists.components
 
 -- a byte of a page
-byte : (page k : ℕ) → k < PAGE_BYTES → slice_index (page_bytes one_leaf page) k ≡ one_leaf.start (page * PAGE_BYTES + k)
+byte : (page k : ℕ) → k < PAGE_BYTES → slice_index (page_bytes one_leaf page) k ≡ bytes_of one_leaf (page * PAGE_BYTES + k)
 byte page k lt = get_or-part (page * PAGE_BYTES) PAGE_BYTES (bytes_of one_leaf) k lt
 
 no_leaf : IsLeafPage prim_layout (page_bytes one_leaf 265) → ⊥
@@ -48,7 +48,7 @@ leaf = record {
     of_kind = byte 266 0 (omega arith);
     of_level = byte 266 1 (omega arith);
     fits = subst (λ (n : ℕ). n ≤ most_rows PRIMARY_LEAF) (sym no_row) (omega arith);
-    reserved = λ k from to. byte 266 k (omega (arith, to)) ∙ patched-outside 1089536 (PRIMARY_LEAF ∷ []) (λ _. 0) (1089536 + k) (inr (omega (arith, from)));
+    reserved = λ k from to. byte 266 k (omega (arith, to)) ∙ patched-outside 1089536 (PRIMARY_LEAF ∷ []) (place []) (1089536 + k) (inr (omega (arith, from)));
   };
   readable = λ i lt none. absurd (omega (arith, lt, no_rows));
 }
@@ -81,7 +81,7 @@ abbrev IsReadableAll : Story → Type 0
 IsReadableAll s = (i : ℕ) → IsInExtents (map (λ e. e.1) two_at_first.lists.components) i → IsReadable s.past i
 
 -- the story had come to its last call
-at_the_end : (page : ℕ) → WasDamaged opened one_leaf 2 page → IsDamagedIn trees (page_bytes one_leaf) page
+at_the_end : (page : ℕ) → WasDamaged opened one_leaf 3 page → IsDamagedIn trees (page_bytes one_leaf) page
 at_the_end page was =
     let calls : length was.since ≡ 0 = omega (arith, clock_of-after was.earlier was.since, ap clock_of was.went, was.clock) in
     by_calls was.earlier was.since was.went calls was.damaged
@@ -89,7 +89,7 @@ at_the_end page was =
     by_calls : (earlier : Story) (since : Calls) → one_leaf ≡ after earlier since → length since ≡ 0
         → (IsReadableAll earlier → IsDamagedIn trees (page_bytes earlier) page) → IsDamagedIn trees (page_bytes one_leaf) page
     by_calls earlier [] went none damaged =
-        subst (λ (s : Story). IsReadableAll s → IsDamagedIn trees (page_bytes s) page) (sym went) damaged (λ i place. tt)
+        subst (λ (s : Story). IsReadableAll s → IsDamagedIn trees (page_bytes s) page) (sym went) damaged (λ i place. inr tt)
     by_calls earlier (call ∷ since) went none damaged = absurd (omega (arith, none))
 
 damaged_265 : IsDamagedIn trees (page_bytes one_leaf) 265
@@ -102,7 +102,7 @@ damaged_265 = (
   record { level = 0; at = 0; place = record { inside = omega arith; up_to_root = λ below lt. absurd (omega (arith, lt)) }; number = refl; bad = no_leaf },
 )
 
-was_265 : WasDamaged opened one_leaf 2 265
+was_265 : WasDamaged opened one_leaf 3 265
 was_265 = record {
   earlier = one_leaf;
   since = [];
@@ -112,7 +112,7 @@ was_265 = record {
 }
 
 pub returns-clause-none_for_its_place : goal.returns-clause-none_for_its_place
-returns-clause-none_for_its_place c = (λ page is. subst (λ (n : ℕ). WasDamaged opened one_leaf 2 n) (same_Some _ _ is) was_265, tt)
+returns-clause-none_for_its_place c = (λ page is. subst (λ (n : ℕ). WasDamaged opened one_leaf 3 n) (same_Some _ _ is) was_265, tt)
 
 pub returns-clause-page_for_its_place : goal.returns-clause-page_for_its_place
 returns-clause-page_for_its_place c are = (damaged_page 266 (at_the_end 266 (are.0 266 refl))).1 leaf
@@ -126,5 +126,5 @@ returns-clause-page_of_no_component c are = neither 264 refl (damaged_page 264 (
 
 pub returns-clause-clock_to_come : goal.returns-clause-clock_to_come
 returns-clause-clock_to_come c are =
-    let was : WasDamaged opened one_leaf 3 265 = are.0 265 refl in
+    let was : WasDamaged opened one_leaf 4 265 = are.0 265 refl in
     omega (arith, clock_of-after was.earlier was.since, ap clock_of was.went, was.clock)
