@@ -3,7 +3,8 @@ use Rattle.std.specs.Prelude.{◌≡◌, ◌⊎◌, ℕ, zero, suc, ◌+◌, ◌
 use Rattle.dev_model.specs.Story.{Bytes, part}
 use Rattle.comp_dir.specs.Places.{slot_start}
 use Rattle.comp_dir.specs.Slots.{slot_of}
-use Rattle.comp_dir.specs.declared.places.TheConstants.{SLOT_BYTES, SLOT_BODY_BYTES, SLOTS, OPEN}
+use Rattle.gate.specs.declared.gates.TheConstants.{OPEN}
+use Rattle.comp_dir.specs.declared.places.TheConstants.{SLOT_BYTES, SLOT_BODY_BYTES, SLOTS}
 use Rattle.comp_dir.specs.declared.slots.Slot.{Slot}
 
 -- the bytes of a slot behind its gate

@@ -3,7 +3,8 @@ use Rattle.std.specs.Prelude.{◌≡◌, ℕ, ◌+◌, ◌*◌, ◌<◌, List, [
 use Rattle.dev_model.specs.Story.{Bytes}
 use Rattle.comp_dir.specs.Directory.{Numbered, slot_at, slots_from, open_from}
 use Rattle.comp_dir.specs.Rules.{IsSound, IsSlot}
-use Rattle.comp_dir.specs.declared.places.TheConstants.{OPEN, SLOTS, PAGE_SLOTS, SLOT_BODY_BYTES}
+use Rattle.gate.specs.declared.gates.TheConstants.{OPEN}
+use Rattle.comp_dir.specs.declared.places.TheConstants.{SLOTS, PAGE_SLOTS, SLOT_BODY_BYTES}
 
 -- the slots of a list that was found, below a number, ascend, and each of them is sound
 pub record AreLawful (pages declared below : ℕ) (found : List Numbered) : Type 0 where

@@ -1,11 +1,12 @@
 -- What is on the disk of a directory, and the calls that change it.
-use Rattle.std.specs.Prelude.{◌≡◌, ◌≢◌, ◌⊎◌, ℕ, ◌+◌, [], ◌∷◌, set, Some, None}
-use Rattle.dev_model.specs.Story.{Story, bytes_of, clock_of, IsReadable, IsSettled, IsInside, Write, Sync, Calls}
-use Rattle.dev_model.specs.Moments.{EachMoment}
+use Rattle.std.specs.Prelude.{◌≡◌, ◌≢◌, ◌⊎◌, ℕ, ◌+◌, [], ◌∷◌, set, Option, Some, None, Result, OnOk}
+use Rattle.dev_model.specs.Story.{Story, WhereTold, bytes_of, clock_of, IsReadable, IsSettled, IsInside, Write, Calls}
+use Rattle.dev_model.specs.Moments.{EachMoment, LeavesOnly}
 use Rattle.comp_dir.specs.Places.{slot_start}
 use Rattle.comp_dir.specs.Slots.{slot_bytes}
 use Rattle.comp_dir.specs.Directory.{Directory, slot_body, directory_of}
-use Rattle.comp_dir.specs.declared.places.TheConstants.{OPEN, CLOSED, SLOT_BODY_BYTES}
+use Rattle.gate.specs.declared.gates.TheConstants.{OPEN}
+use Rattle.comp_dir.specs.declared.places.TheConstants.{SLOT_BODY_BYTES}
 use Rattle.comp_dir.specs.declared.slots.Slot.{Slot}
 use Rattle.comp_dir.specs.Resting.{IsAtRest}
 
@@ -37,14 +38,6 @@ pub record IsReady (n : ℕ) (slot : Slot) (s : Story) : Type 0 where
 abbrev pub write_calls : ℕ → Slot → Calls
 write_calls n slot = Write (slot_start n + 1) (slot_bytes slot) ∷ []
 
--- the gate, open
-abbrev pub open_calls : ℕ → Calls
-open_calls n = Write (slot_start n) (OPEN ∷ []) ∷ Sync ∷ []
-
--- the gate, closed
-abbrev pub close_calls : ℕ → Calls
-close_calls n = Write (slot_start n) (CLOSED ∷ []) ∷ Sync ∷ []
-
 -- the old directory with this slot open
 abbrev pub with_slot : ℕ → Slot → Directory → Directory
 with_slot n slot slots = set slots n (Some (slot_bytes slot))
@@ -62,3 +55,10 @@ pub record HasStayed (s t : Story) : Type 0 where
 -- the one directory or the other
 abbrev pub IsOneOf : Directory → Directory → Directory → Type 0
 IsOneOf old new image = (image ≡ old) ⊎ (image ≡ new)
+
+-- What a call makes of a directory at rest: each crash at each moment of it leaves the old one or the new one, and after `Ok` the
+-- new one stands, at rest.
+pub record Becomes {X E : Type 0} (new : Directory) (result : Result X E) (s : Story) (now : Option Story) : Type 0 where
+  pub any_moment : LeavesOnly s now (λ image. IsOneOf (directory_of (bytes_of s)) new (directory_of image))
+  pub at_rest : OnOk result (WhereTold now IsAtRest)
+  pub reads : OnOk result (WhereTold now (λ t. directory_of (bytes_of t) ≡ new))

@@ -19,8 +19,7 @@ pub use laws::{
     worked_additions, worked_directories, written_slot_stays,
 };
 pub use places::{
-    DIRECTORY_START, FIRST_DATA_PAGE, LSN_LIMIT, MOST_LIVE, OPEN, PRIMARY, SLOT_BYTES, SLOTS,
-    slot_start,
+    DIRECTORY_START, FIRST_DATA_PAGE, LSN_LIMIT, MOST_LIVE, PRIMARY, SLOT_BYTES, SLOTS, slot_start,
 };
 pub use reading::read_dir;
 pub use slots::Slot;

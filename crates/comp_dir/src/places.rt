@@ -28,12 +28,6 @@ pub const SLOT_PAGES: u16 = 8;
 /// How many slots stand on a page.
 pub const PAGE_SLOTS: u16 = 64;
 
-/// What an open gate holds. Any other byte closes it.
-pub const OPEN: u8 = 165;
-
-/// What is written to close a gate.
-pub const CLOSED: u8 = 0;
-
 /// The first page that an extent may have.
 pub const FIRST_DATA_PAGE: u32 = 265;
 

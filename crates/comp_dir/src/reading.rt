@@ -14,11 +14,11 @@ ghost use Rattle.comp_dir.specs.Found.{slot_in, Shows, IsFine, with_open, AreLaw
 use crate::faults::DirFault;
 use crate::parsing::parse;
 use crate::places::{
-    DIRECTORY_PAGES, DIRECTORY_START, OPEN, PAGE_SLOTS, SLOT_BODY_BYTES, SLOT_BYTES, SLOT_PAGES,
-    SLOTS,
+    DIRECTORY_PAGES, DIRECTORY_START, PAGE_SLOTS, SLOT_BODY_BYTES, SLOT_BYTES, SLOT_PAGES, SLOTS,
 };
 use crate::slots::Slot;
 use dev_model::{Device, Failed};
+use gate::OPEN;
 use geo_base::IndexSet;
 use page_codec::PAGE_BYTES;
 use std::alloc::Global;

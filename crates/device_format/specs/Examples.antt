@@ -1,7 +1,7 @@
 -- Worked examples, and laws of the definitions.
 use Rattle.std.specs.Prelude.{◌≡◌, ℕ, ◌+◌, List, [], ◌∷◌, length, Bool}
 use Rattle.dev_model.specs.Story.{Bytes, Story, part}
-use Rattle.wal_log.specs.declared.places.TheConstants.{OPEN}
+use Rattle.gate.specs.declared.gates.TheConstants.{OPEN}
 use Rattle.comp_dir.specs.Places.{slot_start}
 use Rattle.device_format.specs.Planning.{format_calls, write_ticks}
 use Rattle.device_format.specs.Formatting.{IsEmptyStore}

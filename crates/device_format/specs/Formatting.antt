@@ -4,7 +4,7 @@ use Rattle.std.specs.FinMap.{empty}
 use Rattle.dev_model.specs.Story.{Bytes, Story, bytes_of, IsCalmAt, IsSettled}
 use Rattle.wal_log.specs.Segments.{segments_of}
 use Rattle.wal_log.specs.Rules.{records_of}
-use Rattle.wal_log.specs.declared.places.TheConstants.{OPEN}
+use Rattle.gate.specs.declared.gates.TheConstants.{OPEN}
 use Rattle.image_model.specs.Superblock.{declared}
 use Rattle.image_model.specs.Directory.{HasNoComponent}
 use Rattle.image_model.specs.declared.places.TheConstants.{LOG_START}

@@ -4,7 +4,7 @@ use Rattle.dev_model.specs.Story.{Read, Write, Sync, Call, Calls, Story, WhereTo
 use Rattle.dev_model.specs.Doing.{Did, Ticks}
 use Rattle.wal_log.specs.Places.{segment_start}
 use Rattle.wal_log.specs.State.{start_calls}
-use Rattle.wal_log.specs.declared.places.TheConstants.{OPEN}
+use Rattle.gate.specs.declared.gates.TheConstants.{OPEN}
 use Rattle.image_model.specs.Superblock.{superblock_bytes}
 use Rattle.comp_dir.specs.Places.{slot_start}
 use Rattle.comp_dir.specs.declared.places.TheConstants.{SLOTS}

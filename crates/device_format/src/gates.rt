@@ -10,7 +10,8 @@ ghost use Rattle.device_format.specs.Planning.{TellsGate, close_each, close_gate
 use comp_dir::{DIRECTORY_START, SLOT_BYTES, SLOTS};
 use dev_model::{Device, Failed, write_synced};
 use image_model::{LOG_PAGES, LOG_START};
-use wal_log::{OPEN, segment_start};
+use gate::OPEN;
+use wal_log::segment_start;
 
 /// Reads whether the superblock's gate is open.
 pub fn is_superblock_open<D: Device>(device: &mut D) -> Result<bool, Failed>

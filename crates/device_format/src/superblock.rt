@@ -8,7 +8,7 @@ ghost use Rattle.device_format.specs.Planning.{write_superblock};
 use dev_model::{Device, Failed, write_synced};
 use geo_base::IndexSet;
 use image_model::{FORMAT, LOG_PAGES, MAGIC};
-use wal_log::OPEN;
+use gate::OPEN;
 
 /// The bytes of the superblock behind its gate: the version of the format, the declared indexes, the pages and a text.
 pub fn spelled(indexes: IndexSet, pages: u32) -> [u8; 15]

@@ -1,7 +1,7 @@
 -- A directory without components: each of its slots is closed.
 use Rattle.std.specs.Prelude.{◌≢◌, ℕ, ◌<◌}
 use Rattle.dev_model.specs.Story.{Bytes}
-use Rattle.wal_log.specs.declared.places.TheConstants.{OPEN}
+use Rattle.gate.specs.declared.gates.TheConstants.{OPEN}
 use Rattle.comp_dir.specs.Places.{slot_start}
 use Rattle.comp_dir.specs.declared.places.TheConstants.{SLOTS}
 

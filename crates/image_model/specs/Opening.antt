@@ -3,7 +3,7 @@ use Rattle.std.specs.Prelude.{◌≡◌, ◌⊎◌, ℕ, ◌+◌, ◌<◌, ◌�
 use Rattle.dev_model.specs.Story.{Bytes}
 use Rattle.wal_log.specs.Segments.{IsLooked}
 use Rattle.wal_log.specs.Places.{IsInLog}
-use Rattle.wal_log.specs.declared.places.TheConstants.{OPEN}
+use Rattle.gate.specs.declared.gates.TheConstants.{OPEN}
 use Rattle.comp_dir.specs.declared.places.TheConstants.{SLOTS}
 use Rattle.image_model.specs.declared.places.TheConstants.{LOG_START, SUPERBLOCK_BYTES}
 use Rattle.comp_dir.specs.Places.{slot_start}

@@ -3,7 +3,7 @@ use Rattle.std.specs.Prelude.{◌≡◌, ℕ, ◌≤◌, List, ◌∷◌, ◌++�
 use Rattle.std.specs.Int.{to_be_bytes, w32}
 use Rattle.dev_model.specs.Story.{Bytes, part}
 use Rattle.geo_base.specs.declared.indexes.TheConstants.{ALL_INDEXES}
-use Rattle.wal_log.specs.declared.places.TheConstants.{OPEN}
+use Rattle.gate.specs.declared.gates.TheConstants.{OPEN}
 use Rattle.image_model.specs.declared.places.TheConstants.{FORMAT, MAGIC, SUPERBLOCK_BYTES}
 
 -- the bytes behind the gate: the version of the format, the declared indexes, a byte 0, the device's pages and a text

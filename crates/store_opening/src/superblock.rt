@@ -14,7 +14,7 @@ use dev_model::Device;
 use device_format::superblock_bytes;
 use geo_base::IndexSet;
 use image_model::LOG_PAGES;
-use wal_log::OPEN;
+use gate::OPEN;
 
 // The gate is open, and these are the bytes behind it.
 fn is_spelled(bytes: &[u8; 16], indexes: IndexSet, pages: u32) -> bool

@@ -1,11 +1,10 @@
 -- The records behind a number, before and after the segment that is used again is closed.
-use Rattle.std.proofs.Common.{◌≡◌, ◌⊎◌, inl, inr, ℕ, zero, suc, ◌+◌, ◌<◌, ◌≤◌, List, [], ◌∷◌, ◌++◌, length, get_or, set, map, None, Some, refl, sym, ◌∙◌, ap, subst, arith, nat_lt, Bool, true, false, if◌then◌else◌}
-use Rattle.std.proofs.lemmas.Bool.Decides.{nat_tests}
+use Rattle.std.proofs.Common.{◌≡◌, ◌⊎◌, inl, inr, ℕ, ◌+◌, ◌<◌, ◌≤◌, List, [], ◌∷◌, ◌++◌, length, set, map, None, Some, sym, ◌∙◌, ap, subst, arith, nat_lt}
 use Rattle.std.proofs.lemmas.List.Elements.{filter-append}
-use Rattle.wal_log.specs.Records.{IsRecord, record_of}
+use Rattle.wal_log.specs.Records.{record_of}
 use Rattle.wal_log.specs.Headers.{generation_in}
 use Rattle.wal_log.specs.Segments.{Segment, Segments}
-use Rattle.wal_log.specs.Rules.{Numbered, next_lsn_of, first_lsn_of, AreRecords, AreSound, in_order, records_in, records_of}
+use Rattle.wal_log.specs.Rules.{Numbered, next_lsn_of, first_lsn_of, AreSound, in_order, records_in, records_of}
 use Rattle.wal_log.specs.State.{HasLast, IsLogOf, following}
 use Rattle.wal_log.specs.Counted.{IsCounted}
 use Rattle.wal_log.specs.Later.{later}

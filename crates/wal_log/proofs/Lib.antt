@@ -1,3 +1,5 @@
+pub mod Beside
+pub mod Calling
 pub mod Finding
 pub mod Growing
 pub mod HeadsFound
@@ -5,7 +7,6 @@ pub mod Keeping
 pub mod Later
 pub mod LogFound
 pub mod Ordering
-pub mod Planned
 pub mod Renewing
 pub mod Spelled
 pub mod Together

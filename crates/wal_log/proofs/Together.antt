@@ -13,7 +13,7 @@ use Rattle.wal_log.specs.State.{IsAtRest, IsLogOf, newest}
 use Rattle.wal_log.specs.Changes.{IsBeforeOrAfterAll, HasRecordsOrAll, append_all_calls}
 use Rattle.wal_log.specs.declared.log.Log.{Log}
 use Rattle.wal_log.specs.declared.records.Record.{Record}
-use Rattle.wal_log.proofs.Planned.{Leaves, leaves-moments}
+use Rattle.gate.specs.Laws.Plans.{Leaves, leaves-moments}
 use Rattle.wal_log.proofs.Spelled.{length-record_bytes}
 use Rattle.wal_log.proofs.Growing.{append-all}
 use Rattle.wal_log.proofs.Keeping.{recovers-append}

@@ -7,7 +7,8 @@ use Rattle.dev_model.specs.Answers.{IsReadFrom}
 use Rattle.wal_log.specs.Records.{IsRecord, record_of}
 use Rattle.wal_log.specs.Rules.{HasRecords, AreRecords}
 use Rattle.wal_log.specs.Places.{segment_start, record_start}
-use Rattle.wal_log.specs.declared.places.TheConstants.{RECORD_BYTES, RECORD_BODY_BYTES, MOST_RECORDS, LSN_LIMIT, OPEN}
+use Rattle.gate.specs.declared.gates.TheConstants.{OPEN}
+use Rattle.wal_log.specs.declared.places.TheConstants.{RECORD_BYTES, RECORD_BODY_BYTES, MOST_RECORDS, LSN_LIMIT}
 use Rattle.wal_log.specs.declared.reading.TheConstants.{WINDOW_RECORDS}
 use Rattle.wal_log.specs.State.{IsSegmentStill}
 use Rattle.wal_log.specs.Segments.{segment_records, open_records}

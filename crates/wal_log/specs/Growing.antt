@@ -1,7 +1,8 @@
 -- How segments begin and grow.
-use Rattle.std.specs.Prelude.{◌≡◌, ℕ, ◌+◌, ◌<◌, ◌≤◌, List, [], ◌∷◌, ◌++◌, length, Option, Some, None}
+use Rattle.std.specs.Prelude.{◌≡◌, ℕ, ◌<◌, ◌≤◌, List, [], ◌∷◌, ◌++◌, length, Option, Some, None}
 use Rattle.wal_log.specs.Places.{segment_start, record_start}
-use Rattle.wal_log.specs.declared.places.TheConstants.{RECORD_BODY_BYTES, OPEN}
+use Rattle.gate.specs.declared.gates.TheConstants.{OPEN}
+use Rattle.wal_log.specs.declared.places.TheConstants.{RECORD_BODY_BYTES}
 use Rattle.wal_log.specs.Segments.{Segment}
 
 -- a segment with these records more

@@ -1,11 +1,13 @@
 -- How a log that is kept in memory belongs to the bytes, and the calls that a change of segments makes.
 use Rattle.std.specs.Prelude.{◌≡◌, ℕ, ◌+◌, ◌<◌, ◌%◌, List, [], ◌∷◌, ◌++◌, length, get_or, replicate, Bool, false, if◌then◌else◌, ◌==◌, None}
 use Rattle.std.specs.Int.{to_be_bytes, w64}
-use Rattle.dev_model.specs.Story.{Story, bytes_of, IsCalmAt, Write, Sync, Calls}
+use Rattle.dev_model.specs.Story.{Story, bytes_of, IsCalmAt, Calls}
+use Rattle.gate.specs.Gates.{close_calls, gated_calls}
 use Rattle.wal_log.specs.Places.{segment_start}
 use Rattle.wal_log.specs.Segments.{Segments, segment_records, IsLooked}
 use Rattle.wal_log.specs.Rules.{Numbered, generation_of, next_lsn_of, AreSound, in_order}
-use Rattle.wal_log.specs.declared.places.TheConstants.{OPEN, RESERVED_BYTES}
+use Rattle.gate.specs.declared.gates.TheConstants.{OPEN}
+use Rattle.wal_log.specs.declared.places.TheConstants.{RESERVED_BYTES}
 use Rattle.wal_log.specs.declared.log.Log.{Log}
 
 -- all that is looked at to read a segment is on the disk
@@ -38,13 +40,9 @@ pub record IsAtRest (log : Log) (s : Story) : Type 0 where
   pub heads : (k : ℕ) → k < 4 → get_or log.open_headers k false ≡ (bytes_of s (segment_start log.start k) == OPEN)
   pub still : IsStill log.start s
 
--- the gate of a header, closed
-abbrev pub close_calls : (log_start k : ℕ) → Calls
-close_calls log_start k = Write (segment_start log_start k) (0 ∷ []) ∷ Sync ∷ []
-
--- Of a header that is open alone. What is closed isn't written closed again.
+-- The gate of a header that is open, closed. What is closed isn't written closed again.
 abbrev pub close_calls_if : (log_start : ℕ) → Bool → ℕ → Calls
-close_calls_if log_start is_open k = if is_open then close_calls log_start k else []
+close_calls_if log_start is_open k = if is_open then close_calls (segment_start log_start k) else []
 
 -- the bytes behind the gate: the generation, the number of the first record, and zeros
 unfoldable pub header_bytes : (generation first_lsn : ℕ) → List ℕ
@@ -52,8 +50,7 @@ header_bytes generation first_lsn = to_be_bytes w64 generation ++ to_be_bytes w6
 
 -- a header with the closed gate of its segment's first record, and then its own gate, open
 abbrev pub start_calls : (log_start k generation first_lsn : ℕ) → Calls
-start_calls log_start k generation first_lsn =
-    Write (segment_start log_start k + 1) (header_bytes generation first_lsn ++ 0 ∷ []) ∷ Sync ∷ Write (segment_start log_start k) (OPEN ∷ []) ∷ Sync ∷ []
+start_calls log_start k generation first_lsn = gated_calls (segment_start log_start k) (header_bytes generation first_lsn ++ 0 ∷ [])
 
 -- the segment that comes after the newest
 abbrev pub following : Log → ℕ

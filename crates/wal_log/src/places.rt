@@ -51,9 +51,6 @@ pub const LSN_LIMIT: u64 = 0x4000_0000_0000_0000;
 /// How many records a segment may have.
 pub const MOST_RECORDS: u64 = 2048;
 
-/// What an open gate holds. Any other byte closes it.
-pub const OPEN: u8 = 165;
-
 /// The byte where a segment begins, which is the gate of its header.
 pub fn segment_start(log_start: u64, segment: u8) -> u64
     requires segment { segment < 4 }

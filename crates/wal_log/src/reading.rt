@@ -12,8 +12,9 @@ ghost use Rattle.wal_log.specs.Found.{HoldsPlaces, IsFoundIn, window_start, IsPl
 
 use crate::Record;
 use crate::parsing::parse;
-use crate::places::{MOST_RECORDS, OPEN, RECORD_BYTES, record_start};
+use crate::places::{MOST_RECORDS, RECORD_BYTES, record_start};
 use dev_model::{Device, Failed};
+use gate::OPEN;
 
 /// What is read at once: a page's bytes from a record's place on.
 pub const WINDOW_BYTES: usize = 4096;

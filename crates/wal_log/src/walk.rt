@@ -12,10 +12,11 @@ ghost use Rattle.wal_log.specs.Found.{IsOpenStill, WhereBad, HasCauseOfFault};
 ghost use Rattle.wal_log.specs.Walk.{GoesOn, StartsAfter, EndsThere, HasReadSegment, IsUnsound, IsNewest, IsEndOf, IsCountedEnd};
 
 use crate::heads::{Head, read_heads};
-use crate::places::{LSN_LIMIT, OPEN, RESERVED_AT, RESERVED_BYTES};
+use crate::places::{LSN_LIMIT, RESERVED_AT, RESERVED_BYTES};
 use crate::reading::read_records;
 use crate::{LogFault, Record};
 use dev_model::Device;
+use gate::OPEN;
 use std::alloc::Global;
 
 /// What the segments gave: the end of the newest, which headers are open, and all records in order.

@@ -6,6 +6,7 @@ use Rattle.std.proofs.lemmas.Bool.Decides.{nat_tests}
 use Rattle.std.proofs.lemmas.List.{nil_from_length, append-nil, get_or_append_left, get_or-append_right}
 use Rattle.dev_model.specs.Story.{Bytes, Story, bytes_of, part, IsImageNow}
 use Rattle.dev_model.specs.Laws.Ranges.{part-same, part-list}
+use Rattle.gate.specs.Gates.{Holds}
 use Rattle.wal_log.specs.Places.{segment_start, record_start}
 use Rattle.wal_log.specs.State.{IsStill}
 use Rattle.wal_log.specs.Segments.{Segment, open_records, segment_records, segment_header, segment_at, segments_of, IsLooked}
@@ -66,10 +67,6 @@ open_records-end (suc places) at a less = elim (cases_eq (a at) 165) [
       let place : at ≡ at + 96 * length (open_records (suc places) at a) = omega (arith, none) in
       λ is. shut (ap a place ∙ is)
 ]
-
--- these bytes stand from a place on
-abbrev pub Holds : ℕ → List ℕ → Bytes → Type 0
-Holds at xs a = (i : ℕ) → i < length xs → a (at + i) ≡ get_or xs i 0
 
 pub length-gated : (bodies : List (List ℕ)) → AreWide bodies → length (gated bodies) ≡ 96 * length bodies + 1
 length-gated [] wide = refl

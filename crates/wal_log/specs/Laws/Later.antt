@@ -1,11 +1,11 @@
 -- The records of a sound log are numbered one after another, so those behind a number are its last ones. No public contract needs these
 -- laws.
-use Rattle.std.proofs.Common.{◌≡◌, ◌⊎◌, inl, inr, ⊎_elim, ℕ, zero, suc, ◌+◌, ◌<◌, ◌≤◌, List, [], ◌∷◌, ◌++◌, length, length-append, get_or, map, Option, Some, None, refl, sym, ◌∙◌, ap, subst, arith, nat_le, nat_lt, Bool, true, false, if◌then◌else◌}
+use Rattle.std.proofs.Common.{◌≡◌, ◌⊎◌, inl, inr, ℕ, suc, ◌+◌, ◌<◌, ◌≤◌, List, [], ◌∷◌, ◌++◌, length, length-append, get_or, map, Option, Some, None, refl, sym, ◌∙◌, ap, subst, arith, nat_le, nat_lt, Bool, true, false, if◌then◌else◌}
 use Rattle.std.proofs.lemmas.Bool.Decides.{nat_tests}
 use Rattle.std.proofs.lemmas.List.Elements.{filter-append, All-nil, All-cons}
 use Rattle.wal_log.specs.Records.{IsRecord, record_of}
 use Rattle.wal_log.specs.Segments.{Segments}
-use Rattle.wal_log.specs.Rules.{Numbered, first_lsn_of, next_lsn_of, AreRecords, IsEnd, AreSound, OpensFrom, Opens, in_order, records_in, records_of}
+use Rattle.wal_log.specs.Rules.{Numbered, first_lsn_of, AreRecords, IsEnd, AreSound, OpensFrom, Opens, in_order, records_in, records_of}
 use Rattle.wal_log.specs.State.{HasLast, IsLogOf}
 use Rattle.wal_log.specs.Later.{later}
 use Rattle.wal_log.specs.UpTo.{up_to}
