@@ -13,7 +13,7 @@ ghost use Rattle.wal_log.specs.Rules.{records_of};
 ghost use Rattle.wal_log.specs.Segments.{segments_of};
 ghost use Rattle.wal_log.specs.State.{turn_calls, following};
 ghost use Rattle.wal_log.specs.Counted.{IsCounted};
-ghost use Rattle.wal_log.specs.Changes.{append_calls, close_count};
+ghost use Rattle.wal_log.specs.Changes.{append_calls, appended, turned, close_count};
 ghost use Rattle.image_model.specs.Recovered.{write_of};
 ghost use Rattle.comp_dir.specs.Directory.{directory_of};
 ghost use Rattle.component_image.specs.Components.{end_of};
@@ -59,13 +59,9 @@ pub(crate) fn append_record<D: Device>(
         ≡ later (end_of (primary_of (bytes_of s))) (records_of (segments_of LOG_START (bytes_of s))) ++ logged.now ∷ []))) }
 
     ensures width { length (record_bytes logged.now) ≡ 95 }
-    ensures counted { OnOk result (IsCounted log.new) }
-    ensures start { log.new.start ≡ log.old.start }
-    ensures generation { log.new.generation ≡ log.old.generation }
-    ensures open_headers { log.new.open_headers ≡ log.old.open_headers }
-    ensures records { OnOk result (log.new.records ≡ log.old.records + 1) }
-    ensures next_lsn { OnOk result (log.new.next_lsn ≡ log.old.next_lsn + 1) }
+    ensures log { OnOk result (log.new ≡ appended log.old) }
     ensures unchanged { OnErr result (log.new ≡ log.old) }
+    ensures counted { IsCounted log.new }
     ensures same_pages { (D.seen device.new).pages ≡ (D.seen device.old).pages }
     ensures cause { HasCause (D.seen device.old).faults (D.seen device.new).faults result }
 {
@@ -97,13 +93,9 @@ pub(crate) fn change_segments<D: Device>(device: &mut D, log: &mut Log) -> Resul
         WhereTold (D.seen device.new).story (λ t. later (end_of (primary_of (bytes_of t))) (records_of (segments_of LOG_START (bytes_of t)))
         ≡ later (end_of (primary_of (bytes_of s))) (records_of (segments_of LOG_START (bytes_of s)))))) }
 
-    ensures counted { OnOk result (IsCounted log.new) }
-    ensures start { log.new.start ≡ log.old.start }
-    ensures generation { OnOk result (log.new.generation ≡ log.old.generation + 1) }
-    ensures open_headers { OnOk result (log.new.open_headers ≡ set log.old.open_headers (following log.old) true) }
-    ensures records { OnOk result (log.new.records ≡ 0) }
-    ensures next_lsn { log.new.next_lsn ≡ log.old.next_lsn }
+    ensures log { OnOk result (log.new ≡ turned log.old) }
     ensures unchanged { OnErr result (log.new ≡ log.old) }
+    ensures counted { IsCounted log.new }
     ensures same_pages { (D.seen device.new).pages ≡ (D.seen device.old).pages }
     ensures cause { HasCause (D.seen device.old).faults (D.seen device.new).faults result }
 {

@@ -37,8 +37,8 @@ returns-clause-same_segments g c s is t told =
 pub returns-clause-installed : goal.returns-clause-installed
 returns-clause-installed g c s is rest closed =
     installed-directory c.args.n c.args.slot.now s (g.D.Device.seen c.write_slot.new.device).story (g.D.Device.seen c.open_gate.new.device).story (c.write_slot.ensures.within s is)
-    (c.write_slot.ensures.at_rest s is rest closed) (c.write_slot.ensures.same s is rest closed) (c.in_ok-write_slot.ensures.written s is closed)
-    (λ u told. c.in_ok-open_gate.ensures.opened c.args.slot.now u (c.in_ok-sync.ensures.told ∙ told))
+    (λ t told. (c.write_slot.ensures.stays s is rest closed t told).at_rest) (λ t told. (c.write_slot.ensures.stays s is rest closed t told).reads) (c.in_ok-write_slot.ensures.written s is closed)
+    (λ u told rest ready. (c.in_ok-open_gate.ensures.opens c.args.slot.now u (c.in_ok-sync.ensures.told ∙ told) rest ready).reads)
 
 pub returns-in_err-write_slot-clause-any_moment : goal.returns-in_err-write_slot-clause-any_moment
 returns-in_err-write_slot-clause-any_moment g c log table frozen lists s is rest may closed written =
@@ -54,29 +54,29 @@ returns-in_err-open_gate-clause-any_moment g c log table frozen lists s is rest 
     opened-leaves (g.D.Device.seen c.args.device.now).pages log table c.args.n c.args.slot.now frozen lists s rest may closed written (g.D.Device.seen c.write_slot.new.device).story (c.write_slot.ensures.within s is)
     (λ t told. c.in_ok-write_slot.ensures.written s is closed t told) (g.D.Device.seen c.open_gate.new.device).story
     (λ u told. c.open_gate.ensures.within u (c.in_ok-sync.ensures.told ∙ told))
-    (λ u told directory ready. c.open_gate.ensures.any_moment c.args.slot.now u (c.in_ok-sync.ensures.told ∙ told) directory ready)
+    (λ u told directory ready. (c.open_gate.ensures.opens c.args.slot.now u (c.in_ok-sync.ensures.told ∙ told) directory ready).any_moment)
 
 pub returns-clause-any_moment : goal.returns-clause-any_moment
 returns-clause-any_moment g c log table frozen lists s is rest may closed written =
     opened-leaves (g.D.Device.seen c.args.device.now).pages log table c.args.n c.args.slot.now frozen lists s rest may closed written (g.D.Device.seen c.write_slot.new.device).story (c.write_slot.ensures.within s is)
     (λ t told. c.in_ok-write_slot.ensures.written s is closed t told) (g.D.Device.seen c.open_gate.new.device).story
     (λ u told. c.open_gate.ensures.within u (c.in_ok-sync.ensures.told ∙ told))
-    (λ u told directory ready. c.open_gate.ensures.any_moment c.args.slot.now u (c.in_ok-sync.ensures.told ∙ told) directory ready)
+    (λ u told directory ready. (c.open_gate.ensures.opens c.args.slot.now u (c.in_ok-sync.ensures.told ∙ told) directory ready).any_moment)
 
 pub returns-clause-rests : goal.returns-clause-rests
 returns-clause-rests g c log table frozen lists s is rest may closed written t told =
     installed-rests (g.D.Device.seen c.args.device.now).pages log table c.args.n c.args.slot.now frozen lists s rest may closed written (g.D.Device.seen c.write_slot.new.device).story (c.write_slot.ensures.within s is)
     (λ t told. c.in_ok-write_slot.ensures.written s is closed t told) (g.D.Device.seen c.open_gate.new.device).story
     (λ u told. c.open_gate.ensures.within u (c.in_ok-sync.ensures.told ∙ told))
-    (λ u told directory ready. c.open_gate.ensures.any_moment c.args.slot.now u (c.in_ok-sync.ensures.told ∙ told) directory ready)
-    (λ u told directory ready t now. c.in_ok-open_gate.ensures.at_rest c.args.slot.now u (c.in_ok-sync.ensures.told ∙ told) directory ready t now)
-    (λ u told directory ready t now. c.in_ok-open_gate.ensures.opened c.args.slot.now u (c.in_ok-sync.ensures.told ∙ told) directory ready t now) t told
+    (λ u told directory ready. (c.open_gate.ensures.opens c.args.slot.now u (c.in_ok-sync.ensures.told ∙ told) directory ready).any_moment)
+    (λ u told directory ready t now. (c.in_ok-open_gate.ensures.opens c.args.slot.now u (c.in_ok-sync.ensures.told ∙ told) directory ready).at_rest t now)
+    (λ u told directory ready t now. (c.in_ok-open_gate.ensures.opens c.args.slot.now u (c.in_ok-sync.ensures.told ∙ told) directory ready).reads t now) t told
 
 pub returns-clause-placed : goal.returns-clause-placed
 returns-clause-placed g c log table frozen lists s is rest may closed written t told =
     installed-placed (g.D.Device.seen c.args.device.now).pages log table c.args.n c.args.slot.now frozen lists s rest may closed written (g.D.Device.seen c.write_slot.new.device).story (c.write_slot.ensures.within s is)
     (λ t told. c.in_ok-write_slot.ensures.written s is closed t told) (g.D.Device.seen c.open_gate.new.device).story
     (λ u told. c.open_gate.ensures.within u (c.in_ok-sync.ensures.told ∙ told))
-    (λ u told directory ready. c.open_gate.ensures.any_moment c.args.slot.now u (c.in_ok-sync.ensures.told ∙ told) directory ready)
-    (λ u told directory ready t now. c.in_ok-open_gate.ensures.at_rest c.args.slot.now u (c.in_ok-sync.ensures.told ∙ told) directory ready t now)
-    (λ u told directory ready t now. c.in_ok-open_gate.ensures.opened c.args.slot.now u (c.in_ok-sync.ensures.told ∙ told) directory ready t now) t told
+    (λ u told directory ready. (c.open_gate.ensures.opens c.args.slot.now u (c.in_ok-sync.ensures.told ∙ told) directory ready).any_moment)
+    (λ u told directory ready t now. (c.in_ok-open_gate.ensures.opens c.args.slot.now u (c.in_ok-sync.ensures.told ∙ told) directory ready).at_rest t now)
+    (λ u told directory ready t now. (c.in_ok-open_gate.ensures.opens c.args.slot.now u (c.in_ok-sync.ensures.told ∙ told) directory ready).reads t now) t told

@@ -1,4 +1,5 @@
-use Rattle.std.proofs.Common.{rules, ◌≡◌, ◌-◌, sym, subst}
+use Rattle.std.proofs.Common.{rules, ◌≡◌, ◌-◌, ap, sym, subst}
+use Rattle.wal_log.specs.declared.log.Log.{Log}
 use Rattle.store_state.specs.Lists.{Lists}
 use Rattle.store_state.specs.Steps.{frozen_at}
 use Rattle.store_state.specs.Keeping.{IsKept}
@@ -29,7 +30,7 @@ returns-clause-kept g c table s is kept t told =
     subst (λ (l : Lists). IsKept (g.D.Device.seen c.args.device.now).pages c.change_segments.new.log table l t) (sym frozen)
     (kept-frozen (g.D.Device.seen c.args.device.now).pages c.args.log.now c.change_segments.new.log table c.args.state.now.0 s t (g.D.Device.seen c.change_segments.new.device).story
     (c.args.log.now.next_lsn - 1) kept (c.change_segments.ensures.within s is) told
-    (c.in_ok-change_segments.ensures.rests table s is kept.held.rests there t told) c.in_ok-change_segments.ensures.records c.requires.none_frozen
+    (c.in_ok-change_segments.ensures.rests table s is kept.held.rests there t told) (ap (λ (l : Log). l.records) c.in_ok-change_segments.ensures.log) c.requires.none_frozen
     (c.in_ok-change_segments.ensures.later_records table s is kept.held.rests there t told)
     c.lists_have_rules.ensures)
 

@@ -1,4 +1,5 @@
-use Rattle.std.proofs.Common.{rules, ◌≡◌, is_some, sym, subst}
+use Rattle.std.proofs.Common.{rules, ◌≡◌, is_some, ap, sym, subst}
+use Rattle.wal_log.specs.declared.log.Log.{Log}
 use Rattle.table_model.specs.Answers.{after_write}
 use Rattle.image_model.specs.Recovered.{write_of}
 use Rattle.primary_ix.specs.Wanted.{written_row}
@@ -28,7 +29,7 @@ returns-clause-kept g c table s is kept says t told =
     subst (λ (l : Lists). IsKept (g.D.Device.seen c.args.device.now).pages c.append_record.new.log (after_write table (write_of c.args.op.now)) l t) (sym laid)
     (kept-logged (g.D.Device.seen c.args.device.now).pages c.args.log.now c.append_record.new.log table c.args.state.now.0 s t (g.D.Device.seen c.append_record.new.device).story
     (next_record c.args.log.now c.args.op.now c.args.old_point) kept (c.append_record.ensures.within s is) told
-    (c.in_ok-ack.ensures.rests table s is kept.held.rests behind says t told) c.in_ok-ack.ensures.records
+    (c.in_ok-ack.ensures.rests table s is kept.held.rests behind says t told) (ap (λ (l : Log). l.records) c.in_ok-ack.ensures.log)
     (c.in_ok-ack.ensures.later_records table s is kept.held.rests behind t told)
     says c.lists_have_rules.ensures
     (rows-few (g.D.Device.seen c.args.device.now).pages c.args.log.now table c.args.state.now.0 s kept c.lists_have_rules.ensures c.requires.counted))
