@@ -9,7 +9,8 @@ use Rattle.dev_model.specs.Laws.Frame.{WritesWithin-did}
 use Rattle.dev_model.specs.Laws.Ranges.{patched-outside, part-patched, part-list}
 use Rattle.dev_model.specs.Laws.Images.{IsReadable-settled}
 use Rattle.dev_model.specs.Laws.Plans.{Did-call, Did-same}
-use Rattle.gate.specs.Gates.{open_calls, close_calls, Holds, IsGated, HasPut}
+use Rattle.gate.specs.Calls.{open_calls, close_calls}
+use Rattle.gate.specs.Gates.{Holds, IsGated, HasPut}
 use Rattle.gate.specs.Laws.Plans.{leaves-did, leaves-one, leaves-weaker, after-did}
 use Rattle.gate.specs.Laws.Gates.{holds-first, put-synced, put-gated, gated-leaves, gated-within}
 use Rattle.comp_dir.specs.Places.{slot_start}

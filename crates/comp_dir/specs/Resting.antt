@@ -1,7 +1,7 @@
 -- When a directory is at rest on the disk, and the calls that an install makes.
 use Rattle.std.specs.Prelude.{ℕ}
 use Rattle.dev_model.specs.Story.{Story, bytes_of, IsCalmAt, Calls}
-use Rattle.gate.specs.Gates.{gated_calls}
+use Rattle.gate.specs.Calls.{gated_calls}
 use Rattle.comp_dir.specs.Places.{slot_start}
 use Rattle.comp_dir.specs.Slots.{slot_bytes}
 use Rattle.comp_dir.specs.Directory.{IsLooked}

@@ -3,7 +3,7 @@ ghost use Rattle.std.specs.Prelude.{◌+◌, ◌<◌, ◌≤◌, OnOk};
 ghost use Rattle.dev_model.specs.Story.{WhereTold, bytes_of};
 ghost use Rattle.dev_model.specs.Doing.{Made};
 ghost use Rattle.dev_model.specs.Writes.{WritesWithin};
-ghost use Rattle.gate.specs.Gates.{open_calls, close_calls};
+ghost use Rattle.gate.specs.Calls.{open_calls, close_calls};
 ghost use Rattle.comp_dir.specs.Places.{slot_start};
 ghost use Rattle.comp_dir.specs.Directory.{directory_of};
 ghost use Rattle.comp_dir.specs.State.{IsClosed, IsOpen, IsWritten, IsReady, HasStayed, Becomes, write_calls, with_slot, without_slot};

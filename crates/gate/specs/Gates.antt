@@ -1,19 +1,7 @@
--- The calls of gated writes, and what stands at a gate while they are made and afterwards.
-use Rattle.std.specs.Prelude.{◌≡◌, ◌≢◌, ◌⊎◌, ℕ, ◌+◌, ◌<◌, List, [], ◌∷◌, length, get_or}
-use Rattle.dev_model.specs.Story.{Bytes, Story, Write, Sync, Calls, bytes_of, IsInside, IsOutside, IsReadable, IsSettled}
-use Rattle.gate.specs.declared.gates.TheConstants.{OPEN, CLOSED}
-
--- the gate, open
-abbrev pub open_calls : ℕ → Calls
-open_calls at = Write at (OPEN ∷ []) ∷ Sync ∷ []
-
--- the gate, closed
-abbrev pub close_calls : ℕ → Calls
-close_calls at = Write at (CLOSED ∷ []) ∷ Sync ∷ []
-
--- the bytes behind the gate, and then the gate, open
-abbrev pub gated_calls : ℕ → List ℕ → Calls
-gated_calls at body = Write (at + 1) body ∷ Sync ∷ Write at (OPEN ∷ []) ∷ Sync ∷ []
+-- What stands at a gate while bytes are written behind it, and afterwards.
+use Rattle.std.specs.Prelude.{◌≡◌, ◌≢◌, ◌⊎◌, ℕ, ◌+◌, ◌<◌, List, ◌∷◌, length, get_or}
+use Rattle.dev_model.specs.Story.{Bytes, Story, bytes_of, IsInside, IsOutside, IsReadable, IsSettled}
+use Rattle.gate.specs.declared.gates.TheConstants.{OPEN}
 
 -- these bytes stand from a place on
 abbrev pub Holds : ℕ → List ℕ → Bytes → Type 0

@@ -4,7 +4,8 @@ ghost use Rattle.std.specs.Prelude.{◌≢◌, ◌+◌, ◌*◌, ◌<◌, ◌≤
 ghost use Rattle.dev_model.specs.Story.{WhereTold, bytes_of, IsSettled};
 ghost use Rattle.dev_model.specs.Doing.{Made};
 ghost use Rattle.dev_model.specs.Moments.{LeavesOnly};
-ghost use Rattle.gate.specs.Gates.{gated_calls, open_calls, close_calls, IsGated};
+ghost use Rattle.gate.specs.Calls.{gated_calls, open_calls, close_calls};
+ghost use Rattle.gate.specs.Gates.{IsGated};
 
 use dev_model::{Device, Failed, write_synced};
 

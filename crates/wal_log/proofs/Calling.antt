@@ -8,7 +8,7 @@ use Rattle.dev_model.specs.Writes.{WritesWithin}
 use Rattle.dev_model.specs.Laws.Frame.{WritesWithin-did}
 use Rattle.dev_model.specs.Laws.Plans.{Did-same}
 use Rattle.dev_model.specs.Laws.Runs.{LeavesOnly-weaker}
-use Rattle.gate.specs.Gates.{gated_calls}
+use Rattle.gate.specs.Calls.{gated_calls}
 use Rattle.gate.specs.Laws.Plans.{leaves-did, after-did, after-same}
 use Rattle.gate.specs.Laws.Gates.{gated-within}
 use Rattle.wal_log.specs.Places.{segment_start, record_start}

@@ -4,7 +4,8 @@ use Rattle.std.proofs.lemmas.Bool.{cases_eq}
 use Rattle.std.proofs.lemmas.List.{length-map}
 use Rattle.dev_model.specs.Story.{Bytes, Story, after, bytes_of, IsOutside, IsSettled}
 use Rattle.dev_model.specs.Laws.Images.{IsReadable-settled}
-use Rattle.gate.specs.Gates.{gated_calls, Holds, IsGated, HasPut}
+use Rattle.gate.specs.Calls.{gated_calls}
+use Rattle.gate.specs.Gates.{Holds, IsGated, HasPut}
 use Rattle.gate.specs.Laws.Plans.{Leaves, leaves-weaker}
 use Rattle.gate.specs.Laws.Gates.{put-gated, gated-leaves}
 use Rattle.wal_log.proofs.Beside.{others, others-still}

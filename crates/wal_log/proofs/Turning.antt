@@ -8,7 +8,8 @@ use Rattle.dev_model.specs.Story.{Bytes, Write, Calls, Story, after, bytes_of, I
 use Rattle.dev_model.specs.Writes.{AreSpared}
 use Rattle.dev_model.specs.Laws.Ranges.{part-list}
 use Rattle.dev_model.specs.Laws.Images.{IsReadable-settled}
-use Rattle.gate.specs.Gates.{close_calls, gated_calls, Holds, IsGated, HasPut}
+use Rattle.gate.specs.Calls.{close_calls, gated_calls}
+use Rattle.gate.specs.Gates.{Holds, IsGated, HasPut}
 use Rattle.gate.specs.Laws.Plans.{Leaves, leaves-more, leaves-weaker}
 use Rattle.gate.specs.Laws.Gates.{holds-first, put-synced, put-gated, gated-leaves}
 use Rattle.wal_log.proofs.Beside.{others, others-still, here_or_behind, sides}

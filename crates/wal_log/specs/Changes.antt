@@ -2,7 +2,7 @@
 use Rattle.std.specs.Prelude.{◌≡◌, ◌⊎◌, ℕ, ◌+◌, List, [], ◌∷◌, ◌++◌, map, get_or, set, Bool, if◌then◌else◌, true, Option, None, Some, Result, OnOk, All}
 use Rattle.dev_model.specs.Story.{Story, Calls, WhereTold, bytes_of}
 use Rattle.dev_model.specs.Moments.{LeavesOnly}
-use Rattle.gate.specs.Gates.{gated_calls}
+use Rattle.gate.specs.Calls.{gated_calls}
 use Rattle.wal_log.specs.Places.{record_start}
 use Rattle.wal_log.specs.State.{IsAtRest, IsLogOf, header_bytes, newest, following}
 use Rattle.wal_log.specs.Later.{later}

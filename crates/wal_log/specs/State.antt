@@ -2,7 +2,7 @@
 use Rattle.std.specs.Prelude.{◌≡◌, ℕ, ◌+◌, ◌<◌, ◌%◌, List, [], ◌∷◌, ◌++◌, length, get_or, replicate, Bool, false, if◌then◌else◌, ◌==◌, None}
 use Rattle.std.specs.Int.{to_be_bytes, w64}
 use Rattle.dev_model.specs.Story.{Story, bytes_of, IsCalmAt, Calls}
-use Rattle.gate.specs.Gates.{close_calls, gated_calls}
+use Rattle.gate.specs.Calls.{close_calls, gated_calls}
 use Rattle.wal_log.specs.Places.{segment_start}
 use Rattle.wal_log.specs.Segments.{Segments, segment_records, IsLooked}
 use Rattle.wal_log.specs.Rules.{Numbered, generation_of, next_lsn_of, AreSound, in_order}

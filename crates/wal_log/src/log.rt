@@ -3,7 +3,7 @@ ghost use Rattle.std.specs.Prelude.{◌≡◌, ◌+◌, ◌-◌, ◌++◌, ◌�
 ghost use Rattle.dev_model.specs.Story.{WhereTold};
 ghost use Rattle.dev_model.specs.Doing.{Made};
 ghost use Rattle.dev_model.specs.Writes.{WritesWithin};
-ghost use Rattle.gate.specs.Gates.{close_calls};
+ghost use Rattle.gate.specs.Calls.{close_calls};
 ghost use Rattle.wal_log.specs.Places.{segment_start, record_start};
 ghost use Rattle.wal_log.specs.Reads.{EndsOnDevice};
 ghost use Rattle.wal_log.specs.Records.{record_bytes, HasOld};

@@ -7,7 +7,8 @@ use Rattle.dev_model.specs.Writes.{WritesWithin}
 use Rattle.dev_model.specs.Laws.Frame.{WritesWithin-did}
 use Rattle.dev_model.specs.Laws.Ranges.{patched-outside, patched-inside}
 use Rattle.dev_model.specs.Laws.Images.{IsReadable-settled}
-use Rattle.gate.specs.Gates.{gated_calls, Holds, IsGated, HasPut}
+use Rattle.gate.specs.Calls.{gated_calls}
+use Rattle.gate.specs.Gates.{Holds, IsGated, HasPut}
 use Rattle.gate.specs.Laws.Plans.{Leaves, leaves-one, leaves-more}
 
 -- the first of bytes that stand

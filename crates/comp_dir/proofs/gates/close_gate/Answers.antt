@@ -1,6 +1,6 @@
 use Rattle.std.proofs.Common.{ℕ, subst}
 use Rattle.dev_model.specs.Doing.{Made}
-use Rattle.gate.specs.Gates.{close_calls}
+use Rattle.gate.specs.Calls.{close_calls}
 use Rattle.comp_dir.proofs.Turning.{gate-within, close-becomes}
 use Rattle.comp_dir.proofs.gates.close_gate.Goals as goal
 

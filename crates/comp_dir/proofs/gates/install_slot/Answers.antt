@@ -1,7 +1,7 @@
 use Rattle.std.proofs.Common.{subst}
 use Rattle.dev_model.specs.Story.{Calls}
 use Rattle.dev_model.specs.Doing.{Made}
-use Rattle.gate.specs.Gates.{gated_calls}
+use Rattle.gate.specs.Calls.{gated_calls}
 use Rattle.comp_dir.proofs.Turning.{install-within, install-becomes}
 use Rattle.comp_dir.proofs.gates.install_slot.Goals as goal
 

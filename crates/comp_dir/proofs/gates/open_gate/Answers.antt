@@ -1,6 +1,6 @@
 use Rattle.std.proofs.Common.{ℕ, subst}
 use Rattle.dev_model.specs.Doing.{Made}
-use Rattle.gate.specs.Gates.{open_calls}
+use Rattle.gate.specs.Calls.{open_calls}
 use Rattle.comp_dir.proofs.Turning.{gate-within, open-becomes}
 use Rattle.comp_dir.proofs.gates.open_gate.Goals as goal
 

@@ -1,7 +1,8 @@
 use Rattle.std.proofs.Common.{◌+◌, [], ◌∷◌, Err}
 use Rattle.dev_model.specs.Story.{Write, Sync}
 use Rattle.dev_model.specs.Laws.Plans.{Did-cut, Did-then}
-use Rattle.gate.specs.Gates.{gated_calls, open_calls, IsGated}
+use Rattle.gate.specs.Calls.{gated_calls, open_calls}
+use Rattle.gate.specs.Gates.{IsGated}
 use Rattle.gate.specs.Laws.Plans.{leaves-did}
 use Rattle.gate.specs.Laws.Gates.{gated-leaves}
 use Rattle.gate.proofs.gates.write_gated.Goals as goal

@@ -1,5 +1,5 @@
 use Rattle.std.proofs.Common.{◌∙◌, ap, refl}
-use Rattle.gate.specs.Gates.{gated_calls}
+use Rattle.gate.specs.Calls.{gated_calls}
 use Rattle.gate.specs.Laws.Plans.{did-stopped, not-ok}
 use Rattle.wal_log.specs.Places.{record_start}
 use Rattle.wal_log.proofs.Spelled.{record-is}
