@@ -11,6 +11,25 @@ use Rattle.wal_log.specs.Changes.{OpensAs, HasRecordsOrAll, IsBeforeOrAfterAll}
 use Rattle.wal_log.specs.declared.log.Log.{Log}
 use Rattle.wal_log.specs.declared.records.Record.{Record}
 
+-- each of a list of segments has P
+abbrev pub AllOf : (Numbered → Type 0) → List Numbered → Type 0
+AllOf P [] = Unit {0}
+AllOf P (n ∷ ns) = P n × AllOf P ns
+
+all-if : (P : Numbered → Type 0) (t : Bool) (xs ys : List Numbered) → AllOf P xs → AllOf P ys → AllOf P (if t then xs else ys)
+all-if P true xs ys are_xs are_ys = are_xs
+all-if P false xs ys are_xs are_ys = are_ys
+
+pub all-placed : (P : Numbered → Type 0) (n : Numbered) (ns : List Numbered) → P n → AllOf P ns → AllOf P (placed n ns)
+all-placed P n [] is are = (is, tt)
+all-placed P n (m ∷ ms) is are = all-if P (nat_le (generation_of n) (generation_of m)) (n ∷ m ∷ ms) (m ∷ placed n ms) (is, are) (are.0, all-placed P n ms is are.1)
+
+-- all numbers are above one that is lower than the first
+pub above : (k j : ℕ) (segments : Segments) → k < j → AllOf (λ n. k < n.number) (ordered j segments)
+above k j [] lt = tt
+above k j (None ∷ rest) lt = above k (j + 1) rest (omega (arith, lt))
+above k j (Some s ∷ rest) lt = all-placed (λ n. k < n.number) (record { number = j; segment = s }) (ordered (j + 1) rest) lt (above k (j + 1) rest (omega (arith, lt)))
+
 module _ (k : ℕ) (bodies : List (List ℕ)) where
   -- a numbered segment with these records more
   abbrev more : Numbered → Numbered
@@ -43,29 +62,7 @@ module _ (k : ℕ) (bodies : List (List ℕ)) where
       (λ j. if nat_le (grown-generation n j) (grown-generation m j) then grown n ∷ grown m ∷ map grown ms else grown m ∷ placed-grown n ms j)
       ∙ if-map (nat_le (generation_of n) (generation_of m)) (n ∷ m ∷ ms) (m ∷ placed n ms)
 
-  -- all numbers are from this one on
-  abbrev AreFrom : ℕ → List Numbered → Type 0
-  AreFrom j [] = Unit {0}
-  AreFrom j (n ∷ ns) = (j ≤ n.number) × AreFrom j ns
-
-  from-if : (j : ℕ) (t : Bool) (xs ys : List Numbered) → AreFrom j xs → AreFrom j ys → AreFrom j (if t then xs else ys)
-  from-if j true xs ys are_xs are_ys = are_xs
-  from-if j false xs ys are_xs are_ys = are_ys
-
-  from-placed : (j : ℕ) (n : Numbered) (ns : List Numbered) → j ≤ n.number → AreFrom j ns → AreFrom j (placed n ns)
-  from-placed j n [] is are = (is, tt)
-  from-placed j n (m ∷ ms) is are = from-if j (nat_le (generation_of n) (generation_of m)) (n ∷ m ∷ ms) (m ∷ placed n ms) (is, are) (are.0, from-placed j n ms is are.1)
-
-  from-less : (j : ℕ) (ns : List Numbered) → AreFrom (j + 1) ns → AreFrom j ns
-  from-less j [] are = tt
-  from-less j (n ∷ ns) are = (omega (arith, are.0), from-less j ns are.1)
-
-  from-ordered : (j : ℕ) (segments : Segments) → AreFrom j (ordered j segments)
-  from-ordered j [] = tt
-  from-ordered j (None ∷ rest) = from-less j (ordered (j + 1) rest) (from-ordered (j + 1) rest)
-  from-ordered j (Some s ∷ rest) = from-placed j (record { number = j; segment = s }) (ordered (j + 1) rest) (omega arith) (from-less j (ordered (j + 1) rest) (from-ordered (j + 1) rest))
-
-  grown-none : (ns : List Numbered) → AreFrom (k + 1) ns → map grown ns ≡ ns
+  grown-none : (ns : List Numbered) → AllOf (λ n. k < n.number) ns → map grown ns ≡ ns
   grown-none [] are = refl
   grown-none (n ∷ ns) are = λ i. grown-other n (λ is. omega (arith, is, are.0)) i ∷ grown-none ns are.1 i
 
@@ -76,11 +73,11 @@ ordered-grown k i j bodies [] is = none i
     none : (i : ℕ) → ordered j (set [] i (with_records bodies (get_or [] i None))) ≡ []
     none zero = refl
     none (suc i) = refl
-ordered-grown k zero j bodies (None ∷ rest) is = sym (grown-none k bodies (ordered (j + 1) rest) (subst (λ (n : ℕ). AreFrom k bodies n (ordered (j + 1) rest)) (let e : j + 1 ≡ k + 1 = omega (arith, is) in e) (from-ordered k bodies (j + 1) rest)))
+ordered-grown k zero j bodies (None ∷ rest) is = sym (grown-none k bodies (ordered (j + 1) rest) (above k (j + 1) rest (omega (arith, is))))
 ordered-grown k zero j bodies (Some s ∷ rest) is =
     let here : j ≡ k = omega (arith, is) in
     let n : Numbered = record { number = j; segment = s } in
-    let same : map (grown k bodies) (ordered (j + 1) rest) ≡ ordered (j + 1) rest = grown-none k bodies (ordered (j + 1) rest) (subst (λ (m : ℕ). AreFrom k bodies m (ordered (j + 1) rest)) (let e : j + 1 ≡ k + 1 = omega (arith, is) in e) (from-ordered k bodies (j + 1) rest)) in
+    let same : map (grown k bodies) (ordered (j + 1) rest) ≡ ordered (j + 1) rest = grown-none k bodies (ordered (j + 1) rest) (above k (j + 1) rest (omega (arith, is))) in
     (λ i. placed (sym (grown-here k bodies n here) i) (sym same i)) ∙ placed-grown k bodies n (ordered (j + 1) rest)
 ordered-grown k (suc i) j bodies (None ∷ rest) is = ordered-grown k i (j + 1) bodies rest (omega (arith, is))
 ordered-grown k (suc i) j bodies (Some s ∷ rest) is =

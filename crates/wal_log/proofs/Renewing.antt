@@ -13,20 +13,7 @@ use Rattle.wal_log.specs.Counted.{IsCounted}
 use Rattle.wal_log.specs.Changes.{IsTurning, HasSameRecords, first_header}
 use Rattle.wal_log.specs.declared.log.Log.{Log}
 use Rattle.wal_log.specs.declared.records.Record.{Record}
-use Rattle.wal_log.proofs.Keeping.{length-ordered, generations, opens-kept, sound-from, some-last}
-
--- each of a list of segments has P
-abbrev AllOf : (Numbered → Type 0) → List Numbered → Type 0
-AllOf P [] = Unit {0}
-AllOf P (n ∷ ns) = P n × AllOf P ns
-
-all-if : (P : Numbered → Type 0) (t : Bool) (xs ys : List Numbered) → AllOf P xs → AllOf P ys → AllOf P (if t then xs else ys)
-all-if P true xs ys are_xs are_ys = are_xs
-all-if P false xs ys are_xs are_ys = are_ys
-
-all-placed : (P : Numbered → Type 0) (n : Numbered) (ns : List Numbered) → P n → AllOf P ns → AllOf P (placed n ns)
-all-placed P n [] is are = (is, tt)
-all-placed P n (m ∷ ms) is are = all-if P (nat_le (generation_of n) (generation_of m)) (n ∷ m ∷ ms) (m ∷ placed n ms) (is, are) (are.0, all-placed P n ms is are.1)
+use Rattle.wal_log.proofs.Keeping.{AllOf, all-placed, above, length-ordered, generations, opens-kept, sound-from, some-last}
 
 placed-all : (P : Numbered → Type 0) (n : Numbered) (ns : List Numbered) → AllOf P (placed n ns) → P n × AllOf P ns
 placed-all P n [] are = (are.0, tt)
@@ -40,12 +27,6 @@ all-weaker : (P Q : Numbered → Type 0) (ns : List Numbered) → ((n : Numbered
 all-weaker P Q [] weaker are = tt
 all-weaker P Q (n ∷ ns) weaker are = (weaker n are.0, all-weaker P Q ns weaker are.1)
 
--- the numbers from one on
-above : (j k : ℕ) (segments : Segments) → k < j → AllOf (λ n. n.number ≢ k) (ordered j segments)
-above j k [] lt = tt
-above j k (None ∷ rest) lt = above (j + 1) k rest (omega (arith, lt))
-above j k (Some s ∷ rest) lt = all-placed (λ n. n.number ≢ k) (record { number = j; segment = s }) (ordered (j + 1) rest) (λ is. omega (arith, is, lt)) (above (j + 1) k rest (omega (arith, lt)))
-
 all-both : (P Q R : Numbered → Type 0) (ns : List Numbered) → ((n : Numbered) → P n → Q n → R n) → AllOf P ns → AllOf Q ns → AllOf R ns
 all-both P Q R [] both ps qs = tt
 all-both P Q R (n ∷ ns) both ps qs = (both n ps.0 qs.0, all-both P Q R ns both ps.1 qs.1)
@@ -57,10 +38,10 @@ without-all Q k i j [] is all = none i
     none : (i : ℕ) → AllOf Q (ordered j (set [] i None))
     none zero = tt
     none (suc i) = tt
-without-all Q k zero j (None ∷ rest) is all = all-both (λ n. n.number ≢ k → Q n) (λ n. n.number ≢ k) Q (ordered (j + 1) rest) (λ n so unlike. so unlike) all (above (j + 1) k rest (omega (arith, is)))
+without-all Q k zero j (None ∷ rest) is all = all-both (λ n. n.number ≢ k → Q n) (λ n. k < n.number) Q (ordered (j + 1) rest) (λ n so behind. so (λ here. omega (arith, here, behind))) all (above k (j + 1) rest (omega (arith, is)))
 without-all Q k zero j (Some s ∷ rest) is all =
-    all-both (λ n. n.number ≢ k → Q n) (λ n. n.number ≢ k) Q (ordered (j + 1) rest) (λ n so unlike. so unlike)
-    (placed-all (λ n. n.number ≢ k → Q n) (record { number = j; segment = s }) (ordered (j + 1) rest) all).1 (above (j + 1) k rest (omega (arith, is)))
+    all-both (λ n. n.number ≢ k → Q n) (λ n. k < n.number) Q (ordered (j + 1) rest) (λ n so behind. so (λ here. omega (arith, here, behind)))
+    (placed-all (λ n. n.number ≢ k → Q n) (record { number = j; segment = s }) (ordered (j + 1) rest) all).1 (above k (j + 1) rest (omega (arith, is)))
 without-all Q k (suc i) j (None ∷ rest) is all = without-all Q k i (j + 1) rest (omega (arith, is)) all
 without-all Q k (suc i) j (Some s ∷ rest) is all =
     let both : (j ≢ k → Q (record { number = j; segment = s })) × AllOf (λ n. n.number ≢ k → Q n) (ordered (j + 1) rest) = placed-all (λ n. n.number ≢ k → Q n) (record { number = j; segment = s }) (ordered (j + 1) rest) all in

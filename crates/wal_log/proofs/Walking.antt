@@ -23,6 +23,7 @@ use Rattle.wal_log.specs.declared.walk.Ended.{Ended}
 use Rattle.wal_log.specs.declared.records.Record.{Record}
 use Rattle.wal_log.specs.declared.reading.LogFault.{LogFault}
 use Rattle.wal_log.specs.declared.reading.LogFault.TheVariants.{Failed, BadLog, OutOfMemory}
+use Rattle.wal_log.proofs.Keeping.{opens-kept}
 use Rattle.wal_log.proofs.Ordering.{in_order-heads}
 
 follows-from : (log_start : ℕ) (b : Bytes) (behind : Option Numbered) (h : Head) → GoesOn (option_map ended_of behind) h → Follows behind (numbered_at log_start b h)
@@ -140,10 +141,6 @@ module _ (log_start : ℕ) (ends : List ℕ) (b : Bytes) (heads : List Head) (ar
   same_order : map (numbered_at log_start b) heads ≡ in_order (segments_of log_start b)
   same_order = ap (map (numbered_at log_start b)) are ∙ sym (in_order-heads log_start b)
 
-  opens-some : (ns : List Numbered) → 0 < length ns → AreSound ends None ns → OpensFrom ends ns
-  opens-some [] some all = absurd (omega arith)
-  opens-some (n ∷ ns) some all = all
-
   bad-some : (ns : List Numbered) (number : ℕ) → 0 < length ns → IsFirstUnsound ends None ns number → IsBadFrom ends ns number
   bad-some [] number some first = absurd (omega arith)
   bad-some (n ∷ ns) number some first = first
@@ -153,7 +150,7 @@ module _ (log_start : ℕ) (ends : List ℕ) (b : Bytes) (heads : List Head) (ar
   bad-none (n ∷ ns) none = absurd (omega arith)
 
   pub opens : 0 < length heads → AreSound ends None (map (numbered_at log_start b) heads) → Opens ends (segments_of log_start b)
-  opens some all = subst (OpensFrom ends) same_order (opens-some (map (numbered_at log_start b) heads) (omega (arith, some, length-map heads (numbered_at log_start b))) all)
+  opens some all = subst (OpensFrom ends) same_order (opens-kept ends (map (numbered_at log_start b) heads) (omega (arith, some, length-map heads (numbered_at log_start b))) all)
 
   pub is_bad : (number : ℕ) → 0 < length heads → IsFirstUnsound ends None (map (numbered_at log_start b) heads) number → IsBad ends (segments_of log_start b) number
   is_bad number some first = subst (λ (l : List Numbered). IsBadFrom ends l number) same_order (bad-some (map (numbered_at log_start b) heads) number (omega (arith, some, length-map heads (numbered_at log_start b))) first)
