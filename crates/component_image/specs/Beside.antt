@@ -1,7 +1,7 @@
 -- The places beside the log that belong to a store.
 use Rattle.std.specs.Prelude.{◌⊎◌, ℕ}
 use Rattle.dev_model.specs.Story.{Bytes}
-use Rattle.image_model.specs.Opening.{IsLookedInSuperblock}
+use Rattle.superblock.specs.Superblock.{IsLookedInSuperblock}
 use Rattle.comp_dir.specs.Directory.{IsLooked}
 use Rattle.component_image.specs.Recovered.{IsContent}
 

@@ -2,7 +2,7 @@
 use Rattle.std.specs.Prelude.{◌≡◌, List, [], ◌∷◌, Option, Some, None}
 use Rattle.order_merge.specs.Adding.{with_entry}
 use Rattle.wal_log.specs.declared.records.Record.{Record}
-use Rattle.image_model.specs.Recovered.{write_of}
+use Rattle.component_image.specs.Replayed.{write_of}
 use Rattle.primary_ix.specs.Reading.{prim_reading}
 use Rattle.primary_ix.specs.Wanted.{written_row}
 use Rattle.primary_ix.specs.declared.rows.PrimRow.{PrimRow}

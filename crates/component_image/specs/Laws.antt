@@ -11,6 +11,7 @@ pub mod Laid
 pub mod Lists
 pub mod Logging
 pub mod Newest
+pub mod Replayed
 pub mod Opened
 pub mod Resting
 pub mod Showing

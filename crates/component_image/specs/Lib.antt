@@ -1,4 +1,3 @@
-pub mod Alone
 pub mod Beside
 pub mod Changes
 pub mod Components
@@ -7,6 +6,7 @@ pub mod Counted
 pub mod Laid
 pub mod Laws
 pub mod Recovered
+pub mod Replayed
 pub mod Resting
 pub mod Standing
 pub mod Told

@@ -1,17 +1,18 @@
 -- When an image opens, what an opening looks at, and the table that the image recovers to.
-use Rattle.std.specs.Prelude.{◌≡◌, ◌⊎◌, ℕ, List, [], ◌∷◌}
+use Rattle.std.specs.Prelude.{◌≡◌, ◌⊎◌, ℕ, ◌+◌, ◌<◌, ◌≤◌, List, [], ◌∷◌}
 use Rattle.dev_model.specs.Story.{Bytes}
 use Rattle.table_model.specs.Table.{Table}
 use Rattle.wal_log.specs.Later.{later}
 use Rattle.wal_log.specs.Rules.{Opens as LogOpens, records_of}
-use Rattle.wal_log.specs.Segments.{segments_of}
-use Rattle.image_model.specs.declared.places.TheConstants.{LOG_START}
-use Rattle.image_model.specs.Superblock.{IsFormatted}
-use Rattle.image_model.specs.Opening.{IsLookedInSuperblock, IsLookedInLog}
-use Rattle.image_model.specs.Recovered.{replayed}
+use Rattle.wal_log.specs.Places.{IsInLog}
+use Rattle.wal_log.specs.Segments.{segments_of, IsLooked as LogLooked}
+use Rattle.format_numbers.specs.declared.TheConstants.{LOG_START}
+use Rattle.superblock.specs.Superblock.{IsFormatted, IsLookedInSuperblock}
+use Rattle.component_image.specs.Replayed.{replayed}
+use Rattle.comp_dir.specs.Places.{slot_start}
 use Rattle.comp_dir.specs.Directory.{directory_of, IsLooked}
 use Rattle.comp_dir.specs.Choosing.{Opens as DirectoryOpens}
-use Rattle.comp_dir.specs.declared.places.TheConstants.{PRIMARY}
+use Rattle.comp_dir.specs.declared.places.TheConstants.{PRIMARY, SLOTS}
 use Rattle.comp_dir.specs.declared.slots.Slot.{Slot}
 use Rattle.primary_ix.specs.declared.rows.PrimRow.{PrimRow}
 use Rattle.component_image.specs.Components.{components, end_of, IsInExtents}
@@ -33,9 +34,17 @@ pub record Opens (pages : ℕ) (bytes : Bytes) : Type 0 where
   pub directory : DirectoryOpens pages 0 (directory_of bytes)
   pub log : LogOpens (ends_of (primary_of bytes)) (segments_of LOG_START bytes)
 
+-- a place of the log that an opening looks at
+abbrev pub IsLookedInLog : Bytes → ℕ → Type 0
+IsLookedInLog bytes i = (k : ℕ) × (k < 4) × LogLooked LOG_START k bytes i
+
 -- the places that an opening looks at
 abbrev pub IsLookedAt : Bytes → ℕ → Type 0
 IsLookedAt bytes i = IsLookedInSuperblock bytes i ⊎ (IsLooked bytes i ⊎ IsLookedInLog bytes i)
+
+-- a range that an opening may read: in the superblock, in the directory, or in the log
+abbrev pub IsOpeningRange : (at count : ℕ) → Type 0
+IsOpeningRange at count = (at + count ≤ slot_start SLOTS) ⊎ IsInLog LOG_START at count
 
 -- the places at which the rows of components stand
 abbrev pub IsContent : Bytes → ℕ → Type 0

@@ -5,8 +5,8 @@ use Rattle.table_model.specs.Table.{Table}
 use Rattle.wal_log.specs.Segments.{segments_of}
 use Rattle.wal_log.specs.State.{IsAtRest as LogAtRest, IsLogOf}
 use Rattle.wal_log.specs.declared.log.Log.{Log}
-use Rattle.image_model.specs.declared.places.TheConstants.{LOG_START}
-use Rattle.image_model.specs.Opening.{IsLookedInSuperblock}
+use Rattle.format_numbers.specs.declared.TheConstants.{LOG_START}
+use Rattle.superblock.specs.Superblock.{IsLookedInSuperblock}
 use Rattle.comp_dir.specs.Resting.{IsAtRest as DirectoryAtRest}
 use Rattle.component_image.specs.Recovered.{IsContent, Recovers}
 

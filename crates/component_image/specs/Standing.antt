@@ -6,7 +6,7 @@ use Rattle.wal_log.specs.Later.{later}
 use Rattle.wal_log.specs.Rules.{Opens as LogOpens, records_of}
 use Rattle.wal_log.specs.Segments.{segments_of}
 use Rattle.wal_log.specs.declared.records.Record.{Record}
-use Rattle.image_model.specs.declared.places.TheConstants.{LOG_START}
+use Rattle.format_numbers.specs.declared.TheConstants.{LOG_START}
 use Rattle.comp_dir.specs.Choosing.{Opens as DirectoryOpens}
 use Rattle.comp_dir.specs.Directory.{directory_of}
 use Rattle.comp_dir.specs.State.{with_slot}

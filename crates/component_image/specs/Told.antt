@@ -6,7 +6,7 @@ use Rattle.table_model.specs.Table.{Table}
 use Rattle.table_model.specs.Answers.{after_write}
 use Rattle.wal_log.specs.Records.{key_of}
 use Rattle.wal_log.specs.declared.records.Record.{Record}
-use Rattle.image_model.specs.Recovered.{write_of}
+use Rattle.component_image.specs.Replayed.{write_of}
 
 -- a record says at which point its key stood in the table, if it did
 abbrev pub SaysOld : Table → Record → Type 0

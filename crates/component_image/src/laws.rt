@@ -1,5 +1,5 @@
 // Laws of images with components, each as the contract of a function that does nothing.
-ghost use Rattle.std.specs.Prelude.{◌≡◌, ◌↔◌, ◌⊎◌, ℕ, ◌+◌, ◌^◌, ◌<◌, ◌≤◌, All, List, [], ◌∷◌, ◌++◌, length, Option, Some, None, set};
+ghost use Rattle.std.specs.Prelude.{◌≡◌, ◌⊎◌, ℕ, ◌+◌, ◌^◌, ◌<◌, ◌≤◌, All, List, [], ◌∷◌, ◌++◌, length, Option, Some, None, set};
 ghost use Rattle.dev_model.specs.Story.{Bytes, Story, clock_of, bytes_of, IsOutside, IsImageNow, IsCalmAt};
 ghost use Rattle.dev_model.specs.Moments.{EachMoment};
 ghost use Rattle.dev_model.specs.Writes.{WritesWithin};
@@ -14,8 +14,7 @@ ghost use Rattle.wal_log.specs.State.{IsAtRest as LogAtRest, IsLogOf};
 ghost use Rattle.wal_log.specs.Changes.{HasRecordsOr, HasSameRecords, OpensAs};
 ghost use Rattle.wal_log.specs.declared.log.Log.{Log};
 ghost use Rattle.wal_log.specs.declared.records.Record.{Record};
-ghost use Rattle.image_model.specs.Directory.{HasNoComponent};
-ghost use Rattle.image_model.specs.Recovered.{write_of, replayed};
+ghost use Rattle.component_image.specs.Replayed.{write_of, replayed};
 ghost use Rattle.comp_dir.specs.Places.{slot_start};
 ghost use Rattle.comp_dir.specs.Adding.{MayBeAdded};
 ghost use Rattle.comp_dir.specs.Directory.{Directory, directory_of, open_slots};
@@ -33,14 +32,13 @@ ghost use Rattle.component_image.specs.Content.{Shows};
 ghost use Rattle.component_image.specs.Laid.{laid, table_of};
 ghost use Rattle.component_image.specs.Counted.{rows_together, counted};
 ghost use Rattle.component_image.specs.Recovered.{primary_of, ends_of, IsContent, Recovers};
-ghost use Rattle.component_image.specs.Alone.{RecoversAlone};
 ghost use Rattle.component_image.specs.Beside.{IsBeside};
 ghost use Rattle.component_image.specs.Resting.{Rests};
 ghost use Rattle.component_image.specs.Standing.{RecoversEither, MayStand};
 ghost use Rattle.component_image.specs.Told.{SaysOld, AreTold};
 
 use comp_dir::MOST_LIVE;
-use image_model::LOG_START;
+use format_numbers::LOG_START;
 use wal_log::LOG_BYTES;
 
 /// A law: an image recovers to one table at most.
@@ -152,12 +150,6 @@ pub fn new_component_keeps_the_table()
 pub fn added_component_is_the_newest()
     ensures { (pages n : ℕ) (new : Slot) (slots : Directory) → MayBeAdded pages 0 n new slots → new.index ≡ PRIMARY
         → components PRIMARY (with_slot n new slots) ≡ new ∷ components PRIMARY slots }
-{}
-
-/// A law: an image of which no slot is open recovers to a table exactly where its log alone tells that table.
-pub fn image_without_components()
-    ensures { (pages : ℕ) (table : Table) (bytes : Bytes) → HasNoComponent bytes
-        → Recovers pages table bytes ↔ RecoversAlone pages table bytes }
 {}
 
 /// A law: where a directory opens, the newest component of an index ends behind each open slot of the index, also behind an

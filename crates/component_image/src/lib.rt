@@ -6,8 +6,7 @@ mod laws;
 
 pub use laws::{
     added_component_is_the_newest, appends_keep_the_table, components_keep_their_lists,
-    every_crash_keeps_the_table, image_has_one_table, image_without_components,
-    lists_fit_their_table, logged_rows_make_the_table, new_component_keeps_the_table,
-    newest_component_ends_last, rows_are_few, told_records_count, turns_keep_the_table,
-    writes_elsewhere_keep_the_table,
+    every_crash_keeps_the_table, image_has_one_table, lists_fit_their_table,
+    logged_rows_make_the_table, new_component_keeps_the_table, newest_component_ends_last,
+    rows_are_few, told_records_count, turns_keep_the_table, writes_elsewhere_keep_the_table,
 };

@@ -1,50 +1,44 @@
 -- Gates that are closed one by one.
-use Rattle.std.proofs.Common.{◌≡◌, ◌⊎◌, inl, ⊎_elim, ℕ, zero, suc, ◌+◌, ◌<◌, ◌≤◌, [], ◌∷◌, ◌++◌, Option, Ok, Err, refl, sym, ◌∙◌, ap, subst, arith, append-nil, append_assoc}
+use Rattle.std.proofs.Common.{◌≡◌, inl, inr, ℕ, suc, ◌+◌, ◌-◌, ◌*◌, ◌<◌, ◌≤◌, ◌∷◌, Option, refl, sym, subst, arith}
 use Rattle.dev_model.specs.Story.{Calls, Story}
 use Rattle.dev_model.specs.Doing.{noted, all_noted, HasFailed, HasStoppedIn}
-use Rattle.dev_model.specs.Laws.Plans.{Did-cut, Did-then}
-use Rattle.device_format.specs.Planning.{close_gate, close_each}
+use Rattle.device_format.specs.Planning.{close_gate, close_from}
 
--- no gate yet
-pub close_none : (gate : ℕ → ℕ) (old : Option Story) → old ≡ all_noted (close_each gate 0) old
-unfolding close_each
-close_none gate old = refl
+-- what is left of some calls says of each end what all of them said
+pub record IsLeft (calls left : Calls) (old now : Option Story) : Type 0 where
+  pub all : all_noted left now ≡ all_noted calls old
+  pub stops : (new : Option Story) → HasStoppedIn left now new → HasStoppedIn calls old new
 
--- one gate more
-pub close_more : (gate : ℕ → ℕ) (n : ℕ) (old mid new : Option Story) → mid ≡ all_noted (close_each gate n) old → new ≡ noted (close_gate (gate n)) mid → new ≡ all_noted (close_each gate (n + 1)) old
-unfolding close_each
-close_more gate n old mid new before call =
-    let next : suc n ≡ n + 1 = omega arith in
-    subst (λ (m : ℕ). new ≡ all_noted (close_each gate m) old) next
-    (Did-then (Unit {0}) (Unit {0}) (Unit {0}) tt (close_each gate n) (close_gate (gate n) ∷ []) old mid new (Ok tt) before call)
+module _ (gate : ℕ → ℕ) (count : ℕ) (old : Option Story) where
+  -- so many gates were closed
+  abbrev pub AreClosedTo : ℕ → Option Story → Type 0
+  AreClosedTo n now = IsLeft (close_from gate 0 count) (close_from gate n (count - n)) old now
 
-last_or_before : (n count : ℕ) → n ≤ suc count → (n ≡ suc count) ⊎ (n ≤ count)
-last_or_before n count le = grind arith
+  pub close_none : AreClosedTo 0 old
+  close_none =
+      let all : count ≡ count - 0 = omega arith in
+      subst (λ (m : ℕ). IsLeft (close_from gate 0 count) (close_from gate 0 m) old old) all (record { all = refl; stops = λ new stopped. stopped })
 
--- the first of them are a front of all
-abbrev IsFront : (gate : ℕ → ℕ) (n count : ℕ) → Type 0
-IsFront gate n count = (rest : Calls) × (close_each gate n ++ rest ≡ close_each gate count)
+  next : (n : ℕ) (now : Option Story) → n < count → AreClosedTo n now → IsLeft (close_from gate 0 count) (close_gate (gate n) ∷ close_from gate (n + 1) (count - (n + 1))) old now
+  unfolding close_from
+  next n now lt closed =
+      let one_more : count - n ≡ suc (count - (n + 1)) = omega arith in
+      subst (λ (m : ℕ). IsLeft (close_from gate 0 count) (close_from gate n m) old now) one_more closed
 
-all_of : (gate : ℕ → ℕ) (n count : ℕ) → n ≡ count → IsFront gate n count
-all_of gate n count is = ([], append-nil (close_each gate n) ∙ ap (close_each gate) is)
+  pub close_more : (n : ℕ) (now new : Option Story) → n < count → AreClosedTo n now → new ≡ noted (close_gate (gate n)) now → AreClosedTo (n + 1) new
+  close_more n now new lt closed call =
+      let more = next n now lt closed in
+      subst (AreClosedTo (n + 1)) (sym call) (record { all = more.all; stops = λ end stopped. more.stops end (inr stopped) })
 
-one_behind : (gate : ℕ → ℕ) (n count : ℕ) → IsFront gate n count → IsFront gate n (suc count)
-unfolding close_each
-one_behind gate n count front = (
-  front.0 ++ close_gate (gate count) ∷ [],
-  sym (append_assoc (close_each gate n) front.0 (close_gate (gate count) ∷ [])) ∙ ap (λ (c : Calls). c ++ close_gate (gate count) ∷ []) front.1,
-)
+  pub close_stopped : (n : ℕ) (now new : Option Story) → n < count → AreClosedTo n now → HasFailed (close_gate (gate n)) now new → HasStoppedIn (close_from gate 0 count) old new
+  close_stopped n now new lt closed failed = (next n now lt closed).stops new (inl failed)
 
-close_front : (gate : ℕ → ℕ) (n count : ℕ) → n ≤ count → IsFront gate n count
-close_front gate n zero le = all_of gate n 0 (omega arith)
-close_front gate n (suc count) le = ⊎_elim (λ last. all_of gate n (suc count) last) (λ before. one_behind gate n count (close_front gate n count before)) (last_or_before n count le)
+  pub close_all : (n : ℕ) (now : Option Story) → count ≤ n → AreClosedTo n now → now ≡ all_noted (close_from gate 0 count) old
+  unfolding close_from
+  close_all n now le closed =
+      let none : count - n ≡ 0 = omega arith in
+      (subst (λ (m : ℕ). IsLeft (close_from gate 0 count) (close_from gate n m) old now) none closed).all
 
--- one of them failed
-pub close_stopped : (gate : ℕ → ℕ) (n count at : ℕ) (old mid new : Option Story) → n < count → at ≡ gate n → mid ≡ all_noted (close_each gate n) old → HasFailed (close_gate at) mid new → HasStoppedIn (close_each gate count) old new
-unfolding close_each
-close_stopped gate n count at old mid new lt is before failed =
-    let front : IsFront gate (suc n) count = close_front gate (suc n) count (omega arith) in
-    let here : HasFailed (close_gate (gate n)) mid new = subst (λ (m : ℕ). HasFailed (close_gate m) mid new) is failed in
-    let up_to : HasStoppedIn (close_each gate n ++ close_gate (gate n) ∷ []) old new =
-    Did-then (Unit {0}) (Unit {0}) (Unit {0}) tt (close_each gate n) (close_gate (gate n) ∷ []) old mid new (Err tt) before (inl here) in
-    subst (λ (c : Calls). HasStoppedIn c old new) front.1 (Did-cut (Unit {0}) (Unit {0}) (Unit {0}) (Unit {0}) tt tt (close_each gate (suc n)) front.0 old new up_to)
+-- the place of each gate is before the end
+pub before_end : (step n count : ℕ) → n < count → step * n + step ≤ step * count
+before_end step n count lt = grind arith

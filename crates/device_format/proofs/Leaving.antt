@@ -1,5 +1,5 @@
 -- What a crash leaves at each moment of a format, and what stands after it.
-use Rattle.std.proofs.Common.{◌≡◌, ◌≢◌, ◌⊎◌, inl, inr, ⊎_elim, ℕ, ◌+◌, ◌<◌, ◌≤◌, [], ◌∷◌, ◌++◌, Bool, true, false, ◌==◌, Option, Some, None, Result, Ok, Err, refl, sym, ◌∙◌, ap, subst, arith}
+use Rattle.std.proofs.Common.{◌≡◌, ◌≢◌, ◌⊎◌, inl, inr, ⊎_elim, ℕ, ◌+◌, ◌≤◌, [], ◌∷◌, ◌++◌, Bool, true, false, ◌==◌, Option, Some, None, Result, Ok, Err, refl, sym, ◌∙◌, ap, subst, arith}
 use Rattle.std.specs.Prelude.{OnOk, IsErr}
 use Rattle.std.proofs.lemmas.Bool.{cases_eq}
 use Rattle.std.proofs.lemmas.Bool.Decides.{nat_tests}
@@ -11,14 +11,13 @@ use Rattle.dev_model.specs.Writes.{AreSpared}
 use Rattle.dev_model.specs.Laws.Frame.{IsSettled-spared, bytes_of-spared}
 use Rattle.dev_model.specs.Laws.Images.{IsReadable-settled}
 use Rattle.dev_model.specs.Laws.Plans.{LeavesOnly-did, Did-untold, all_noted-told, no_story}
-use Rattle.dev_model.specs.Laws.Ranges.{patched-outside, patched-inside}
+use Rattle.dev_model.specs.Laws.Ranges.{patched-outside}
 use Rattle.dev_model.specs.Laws.Runs.{During, after-append}
-use Rattle.device_format.specs.Planning.{close_superblock_if, close_gates, start_log, write_superblock, write_ticks, format_calls, Formats}
+use Rattle.superblock.specs.Calls.{close_superblock_if, write_superblock}
+use Rattle.device_format.specs.Planning.{close_gates, start_log, write_ticks, format_calls, Formats}
 use Rattle.device_format.specs.Formatting.{IsEmptyStore, IsFreshStore, IsUnformatted, HasNoStore, LooksAs, IsNoneOrEmpty, IsBeforeOrAfter}
-use Rattle.device_format.proofs.Joining.{During-join}
-use Rattle.device_format.proofs.Ready.{IsReady, IsBehindGate, ready-same, ready-store, ready-looked}
-use Rattle.device_format.proofs.Zeros.{closed-gates, spared-gates}
-use Rattle.device_format.proofs.Preparing.{IsPrepared, write_fields, prepared}
+use Rattle.device_format.proofs.Ready.{IsReady, IsBehindGate, IsPrepared, behind_gate, behind_back, ready-same, ready-store, ready-looked, write_fields, prepared}
+use Rattle.device_format.proofs.Zeros.{closed-gates, spared-gates, first_there}
 
 -- calls that leave the gate alone leave it closed, and so does a crash during them
 shut_after : (s : Story) (calls : Calls) → HasNoStore s → AreSpared calls 0 → HasNoStore (after s calls)
@@ -34,93 +33,85 @@ unformatted_during s (call ∷ calls) P so shut spared = (
   unformatted_during (with_call s call) calls P so (shut_after s (call ∷ []) shut (spared.0, tt)) spared.1,
 )
 
+-- what holds during calls and during those behind them
+During-join : (s : Story) (calls more : Calls) (P : Bytes → Type 0) → During s calls P → During (after s calls) more P → During s (calls ++ more) P
+During-join s [] more P first second = second
+During-join s (call ∷ calls) more P first second = (first.0, During-join (with_call s call) calls more P first.1 second)
+
+abbrev open_gate : Calls
+open_gate = Write 0 (165 ∷ []) ∷ Sync ∷ []
+
 -- the opening of the gate
-module _ (pages indexes : ℕ) (few : indexes ≤ 31) (s : Story) (ready : IsPrepared pages indexes s) where
-  abbrev open_gate : Calls
-  open_gate = Write 0 (165 ∷ []) ∷ Sync ∷ []
-
-  beside : (i : ℕ) → IsBehindGate i → 0 < i
-  beside i (inl field) = field.0
-  beside i (inr (inl slot)) = omega (arith, slot.2)
-  beside i (inr (inr (inl head))) = omega (arith, head.2)
-  beside i (inr (inr (inr first))) = omega (arith, first.0)
-
-  outside : (i : ℕ) → IsBehindGate i → bytes_of (after s open_gate) i ≡ bytes_of s i
-  outside i behind = patched-outside 0 (165 ∷ []) (bytes_of s) i (inr (omega (arith, beside i behind)))
+module _ (pages indexes : ℕ) (few : indexes ≤ 31) (s : Story) (prepared : IsPrepared pages indexes s) where
+  outside : (i : ℕ) → IsBehindGate (bytes_of s) i → bytes_of (after s open_gate) i ≡ bytes_of s i
+  outside i behind = patched-outside 0 (165 ∷ []) (bytes_of s) i (inr (behind_gate (bytes_of s) i behind))
 
   opened : bytes_of (after s open_gate) 0 ≡ 165
-  opened = patched-inside 0 (165 ∷ []) (bytes_of s) 0 (record { from = omega arith; to = omega arith })
+  opened = first_there 0 165 (bytes_of s)
 
   ready_after : IsReady pages indexes (bytes_of (after s open_gate))
-  ready_after = ready-same pages indexes (bytes_of s) (bytes_of (after s open_gate)) outside ready.ready
+  ready_after = ready-same (bytes_of s) (bytes_of (after s open_gate)) outside prepared.ready
 
   -- an image whose gate is open has all that stands behind it
-  store_behind : (image : Bytes) → ((i : ℕ) → IsBehindGate i → image i ≡ bytes_of s i) → IsNoneOrEmpty pages indexes image
+  store_behind : (image : Bytes) → ((i : ℕ) → IsBehindGate (bytes_of s) i → image i ≡ bytes_of s i) → IsNoneOrEmpty pages indexes image
   store_behind image same = elim (cases_eq (image 0) 165) [
-    | inl is_open ↦ inr (ready-store pages indexes image (ready-same pages indexes (bytes_of s) image same ready.ready) few is_open)
+    | inl is_open ↦ inr (ready-store pages indexes image (ready-same (bytes_of s) image same prepared.ready) few is_open)
     | inr shut ↦ inl shut
   ]
 
-  pub opening : (P : Bytes → Type 0) → ((image : Bytes) → IsNoneOrEmpty pages indexes image → P image) → During s open_gate P
+  opening : (P : Bytes → Type 0) → ((image : Bytes) → IsNoneOrEmpty pages indexes image → P image) → During s open_gate P
   opening P so = (
-    λ image is. so image (store_behind image (λ i behind. is i (inr (omega (arith, beside i behind))) (ready.settled i behind))),
-    (λ image is. so image (store_behind image (λ i behind. is i tt (inr (omega (arith, beside i behind)), ready.settled i behind) ∙ outside i behind)), tt),
+    λ image is. so image (store_behind image (λ i behind. is i (inr (behind_gate (bytes_of s) i behind)) (prepared.settled i behind))),
+    (λ image is. so image (store_behind image (λ i behind. is i tt (inr (behind_gate (bytes_of s) i behind), prepared.settled i behind) ∙ outside i behind)), tt),
   )
 
-  settled_after : (i : ℕ) → (i ≡ 0) ⊎ IsBehindGate i → IsSettled (after s open_gate).past i
+  settled_after : (i : ℕ) → (i ≡ 0) ⊎ IsBehindGate (bytes_of (after s open_gate)) i → IsSettled (after s open_gate).past i
   settled_after i (inl gate) = inl (record { from = omega arith; to = omega (arith, gate) })
-  settled_after i (inr behind) = inr (IsReadable-settled s.past i (ready.settled i behind))
+  settled_after i (inr behind) = inr (IsReadable-settled s.past i (prepared.settled i (behind_back (bytes_of s) (bytes_of (after s open_gate)) outside i behind)))
 
-  pub fresh : IsFreshStore pages indexes (after s open_gate)
+  fresh : IsFreshStore pages indexes (after s open_gate)
   fresh = record {
-    calm = λ i looked. settled_after i (ready-looked pages indexes (bytes_of (after s open_gate)) ready_after i looked);
+    calm = λ i looked. settled_after i (ready-looked (bytes_of (after s open_gate)) i looked);
     store = ready-store pages indexes (bytes_of (after s open_gate)) ready_after few opened;
   }
 
-  pub fresh_image : (image : Bytes) → IsImageNow (after s open_gate) image → IsEmptyStore pages indexes image
+  fresh_image : (image : Bytes) → IsImageNow (after s open_gate) image → IsEmptyStore pages indexes image
   fresh_image image is =
-      ready-store pages indexes image
-      (ready-same pages indexes (bytes_of (after s open_gate)) image (λ i behind. is i (settled_after i (inr behind))) ready_after)
+      ready-store pages indexes image (ready-same (bytes_of (after s open_gate)) image (λ i behind. is i (settled_after i (inr behind))) ready_after)
       few (is 0 (settled_after 0 (inl refl)) ∙ opened)
 
 -- all behind the closing of the superblock
 module _ (pages indexes : ℕ) (few : indexes ≤ 31) (s : Story) where
-  abbrev closed_end : Story
-  closed_end = after s close_gates
+  abbrev closed : Story
+  closed = after s close_gates
 
-  abbrev started_end : Story
-  started_end = after closed_end start_log
-
-  abbrev prepared_end : Story
-  prepared_end = after started_end (write_fields indexes pages)
+  abbrev before_gate : Calls
+  before_gate = start_log ++ write_fields indexes pages
 
   abbrev rest : Calls
   rest = close_gates ++ (start_log ++ write_superblock indexes pages)
 
-  is_prepared : IsPrepared pages indexes prepared_end
-  is_prepared = prepared pages indexes closed_end (closed-gates s)
+  is_prepared : IsPrepared pages indexes (after closed before_gate)
+  is_prepared = prepared pages indexes closed (closed-gates s)
 
-  rest_is : after s rest ≡ after prepared_end (Write 0 (165 ∷ []) ∷ Sync ∷ [])
-  rest_is = after-append s close_gates (start_log ++ write_superblock indexes pages) ∙ after-append closed_end start_log (write_superblock indexes pages)
+  rest_is : after s rest ≡ after (after closed before_gate) open_gate
+  rest_is = after-append s close_gates (start_log ++ write_superblock indexes pages)
 
-  pub rest_fresh : IsFreshStore pages indexes (after s rest)
-  rest_fresh = subst (IsFreshStore pages indexes) (sym rest_is) (fresh pages indexes few prepared_end is_prepared)
+  rest_fresh : IsFreshStore pages indexes (after s rest)
+  rest_fresh = subst (IsFreshStore pages indexes) (sym rest_is) (fresh pages indexes few (after closed before_gate) is_prepared)
 
-  pub rest_image : (image : Bytes) → IsImageNow (after s rest) image → IsEmptyStore pages indexes image
-  rest_image image is = fresh_image pages indexes few prepared_end is_prepared image (subst (λ (t : Story). IsImageNow t image) rest_is is)
+  rest_image : (image : Bytes) → IsImageNow (after s rest) image → IsEmptyStore pages indexes image
+  rest_image image is = fresh_image pages indexes few (after closed before_gate) is_prepared image (subst (λ (t : Story). IsImageNow t image) rest_is is)
 
-  spared_log : AreSpared start_log 0
-  spared_log = (inl (omega arith), (tt, (inl (omega arith), (tt, tt))))
+  spared : AreSpared before_gate 0
+  spared = (inl (omega arith), (tt, (inl (omega arith), (tt, (inl (omega arith), (tt, tt))))))
 
-  pub rest_during : HasNoStore s → (P : Bytes → Type 0) → ((image : Bytes) → IsNoneOrEmpty pages indexes image → P image) → During s rest P
+  rest_during : HasNoStore s → (P : Bytes → Type 0) → ((image : Bytes) → IsNoneOrEmpty pages indexes image → P image) → During s rest P
   rest_during shut P so =
-      let shut_closed : HasNoStore closed_end = shut_after s close_gates shut spared-gates in
-      let shut_started : HasNoStore started_end = shut_after closed_end start_log shut_closed spared_log in
       let unformatted : (image : Bytes) → IsUnformatted image → P image = λ image is. so image (inl is) in
-      During-join s close_gates (start_log ++ write_superblock indexes pages) P (unformatted_during s close_gates P unformatted shut spared-gates)
-      (During-join closed_end start_log (write_superblock indexes pages) P (unformatted_during closed_end start_log P unformatted shut_closed spared_log)
-      (During-join started_end (write_fields indexes pages) (Write 0 (165 ∷ []) ∷ Sync ∷ []) P (unformatted_during started_end (write_fields indexes pages) P unformatted shut_started (inl (omega arith), (tt, tt)))
-      (opening pages indexes few prepared_end is_prepared P so)))
+      During-join s close_gates (before_gate ++ open_gate) P (unformatted_during s close_gates P unformatted shut spared-gates)
+      (During-join closed before_gate open_gate P (unformatted_during closed before_gate P unformatted (shut_after s close_gates shut spared-gates) spared)
+      (opening pages indexes few (after closed before_gate) is_prepared P so))
 
 -- what the gate is read as
 gate-open : (gate : ℕ) → true ≡ (gate == 165) → gate ≡ 165
@@ -154,9 +145,7 @@ module _ (s : Story) (gate_settled : IsSettled s.past 0) where
   closing_shut false is = record { settled = gate_settled; closed = gate-shut (bytes_of s 0) is }
   closing_shut true is = record {
     settled = inl (record { from = omega arith; to = omega arith });
-    closed = λ is_open.
-        let byte : patched 0 (0 ∷ []) (bytes_of s) 0 ≡ 0 = patched-inside 0 (0 ∷ []) (bytes_of s) 0 (record { from = omega arith; to = omega arith }) in
-        omega (arith, byte, is_open);
+    closed = λ is_open. let byte : patched 0 (0 ∷ []) (bytes_of s) 0 ≡ 0 = first_there 0 0 (bytes_of s) in omega (arith, byte, is_open);
   }
 
 -- all calls, planned

@@ -1,8 +1,9 @@
 -- Worked examples, and laws of the definitions.
-use Rattle.std.specs.Prelude.{◌≡◌, ℕ, ◌+◌, List, [], ◌∷◌, length, Bool}
+use Rattle.std.specs.Prelude.{◌≡◌, ℕ, ◌+◌, ◌<◌, List, [], ◌∷◌, length, Bool}
 use Rattle.dev_model.specs.Story.{Bytes, Story, part}
 use Rattle.gate.specs.declared.gates.TheConstants.{OPEN}
 use Rattle.comp_dir.specs.Places.{slot_start}
+use Rattle.comp_dir.specs.declared.places.TheConstants.{SLOTS}
 use Rattle.device_format.specs.Planning.{format_calls, write_ticks}
 use Rattle.device_format.specs.Formatting.{IsEmptyStore}
 
@@ -20,7 +21,7 @@ AreCounted = (is_open : Bool) (indexes pages : ℕ) → length (format_calls is_
 
 -- an empty store has no open slot
 abbrev pub HaveNoOpenSlot : Type 0
-HaveNoOpenSlot = (pages indexes : ℕ) (bytes : Bytes) → bytes (slot_start 511) ≡ OPEN → IsEmptyStore pages indexes bytes → ⊥
+HaveNoOpenSlot = (pages indexes n : ℕ) (bytes : Bytes) → n < SLOTS → bytes (slot_start n) ≡ OPEN → IsEmptyStore pages indexes bytes → ⊥
 
 -- two empty stores on devices of as many pages with the same indexes have the same superblock
 abbrev pub HaveOneSuperblock : Type 0

@@ -4,17 +4,17 @@ use Rattle.std.specs.FinMap.{empty}
 use Rattle.dev_model.specs.Story.{Bytes, Story, bytes_of, IsCalmAt, IsSettled}
 use Rattle.wal_log.specs.Segments.{segments_of}
 use Rattle.wal_log.specs.Rules.{records_of}
-use Rattle.gate.specs.declared.gates.TheConstants.{OPEN}
-use Rattle.image_model.specs.Superblock.{declared}
-use Rattle.image_model.specs.Directory.{HasNoComponent}
-use Rattle.image_model.specs.declared.places.TheConstants.{LOG_START}
+use Rattle.wal_log.specs.declared.places.TheConstants.{OPEN}
+use Rattle.superblock.specs.Superblock.{declared}
+use Rattle.comp_dir.specs.Directory.{directory_of, open_slots}
+use Rattle.format_numbers.specs.declared.TheConstants.{LOG_START}
 use Rattle.component_image.specs.Recovered.{IsLookedAt, Recovers}
 
 -- the image of a store of so many pages that has no component and no record, with these declared indexes
 pub record IsEmptyStore (pages indexes : ℕ) (bytes : Bytes) : Type 0 where
   pub recovers : Recovers pages empty bytes
   pub declares : declared bytes ≡ indexes
-  pub no_slots : HasNoComponent bytes
+  pub no_slots : open_slots (directory_of bytes) ≡ []
   pub no_records : records_of (segments_of LOG_START bytes) ≡ []
 
 -- such a store is what is read, and what each crash leaves where an opening looks

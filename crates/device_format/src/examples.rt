@@ -1,6 +1,6 @@
 // Worked examples and laws of the definitions, each as the contract of a function that does nothing.
 ghost use Rattle.std.specs.Prelude.{◌≡◌};
-ghost use Rattle.image_model.specs.Superblock.{superblock_bytes};
+ghost use Rattle.superblock.specs.Superblock.{superblock_bytes};
 ghost use Rattle.device_format.specs.Formatting.{HasNoStore};
 ghost use Rattle.device_format.specs.Examples.{example_superblock, zero_story, AreCounted, HaveNoOpenSlot, HaveOneSuperblock};
 

@@ -7,11 +7,11 @@ ghost use Rattle.dev_model.specs.Moments.{LeavesOnly};
 ghost use Rattle.device_format.specs.Planning.{Formats, write_calls, write_ticks};
 ghost use Rattle.device_format.specs.Formatting.{IsFreshStore, HasNoStore, IsBeforeOrAfter, IsNoneOrEmpty};
 
-use crate::gates::{close_gates, close_superblock_if, is_superblock_open};
-use crate::superblock::write_superblock;
+use crate::gates::close_gates;
 use dev_model::{Device, Failed};
+use format_numbers::{FIRST_DATA_PAGE, LOG_START};
 use geo_base::IndexSet;
-use image_model::{LOG_PAGES, LOG_START};
+use superblock::{close_superblock_if, is_superblock_open, write_superblock};
 use wal_log::start_segment;
 
 /// Makes the device an empty store with these declared indexes, whatever bytes it has.
@@ -20,7 +20,7 @@ use wal_log::start_segment;
 /// and in the end the empty one. `Failed` comes where a call of the device failed, and that call was the last: any of the
 /// three may be there then, and the device may be formatted again. No memory is taken.
 pub fn format_dev<D: Device>(device: &mut D, indexes: IndexSet) -> Result<(), Failed>
-    requires pages { LOG_PAGES ≤ (D.seen device.old).pages }
+    requires pages { FIRST_DATA_PAGE ≤ (D.seen device.old).pages }
 
     // The calls that were made, in their order.
     ensures did { Formats indexes (D.seen device.old).pages (D.seen device.old).story (D.seen device.new).story (D.seen device.old).clock (D.seen device.new).clock result }
@@ -47,7 +47,7 @@ pub fn format_dev<D: Device>(device: &mut D, indexes: IndexSet) -> Result<(), Fa
 
 /// Writes the empty store, over a superblock that is open or closed.
 fn write_store<D: Device>(device: &mut D, is_open: bool, indexes: IndexSet) -> Result<(), Failed>
-    requires { LOG_PAGES ≤ (D.seen device.old).pages }
+    requires { FIRST_DATA_PAGE ≤ (D.seen device.old).pages }
     ensures did { Did (write_calls is_open indexes (D.seen device.old).pages) (D.seen device.old).story (D.seen device.new).story result }
     ensures ticks { Ticks (write_ticks is_open) (D.seen device.old).clock (D.seen device.new).clock result }
     ensures same_pages { (D.seen device.new).pages ≡ (D.seen device.old).pages }

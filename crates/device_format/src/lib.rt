@@ -4,8 +4,6 @@
 mod examples;
 mod format;
 mod gates;
-mod superblock;
 
 pub use examples::{empty_stores, worked_formats};
 pub use format::format_dev;
-pub use superblock::spelled as superblock_bytes;

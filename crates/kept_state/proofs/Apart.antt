@@ -7,7 +7,7 @@ use Rattle.dev_model.specs.Writes.{WritesWithin}
 use Rattle.space_map.specs.Space.{is_in}
 use Rattle.table_model.specs.Table.{Table}
 use Rattle.wal_log.specs.declared.places.TheConstants.{LOG_BYTES}
-use Rattle.image_model.specs.declared.places.TheConstants.{LOG_START}
+use Rattle.format_numbers.specs.declared.TheConstants.{LOG_START}
 use Rattle.comp_dir.specs.Directory.{Numbered}
 use Rattle.comp_dir.specs.declared.places.TheConstants.{FIRST_DATA_PAGE}
 use Rattle.device_pages.specs.Lent.{is_lent}

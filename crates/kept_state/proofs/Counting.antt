@@ -11,7 +11,7 @@ use Rattle.wal_log.specs.Records.{key_of}
 use Rattle.wal_log.specs.declared.records.LogOp.{LogOp}
 use Rattle.wal_log.specs.declared.records.LogOp.TheVariants.{Put, Del}
 use Rattle.wal_log.specs.declared.records.Record.{Record}
-use Rattle.image_model.specs.Recovered.{write_of}
+use Rattle.component_image.specs.Replayed.{write_of}
 use Rattle.primary_ix.specs.Wanted.{written_row}
 use Rattle.component_image.specs.Told.{SaysOld}
 use Rattle.store_state.specs.Steps.{rows_with}

@@ -16,8 +16,8 @@ use Rattle.wal_log.specs.State.{HasLast}
 use Rattle.wal_log.specs.Counted.{IsCounted}
 use Rattle.wal_log.specs.declared.log.Log.{Log}
 use Rattle.wal_log.specs.declared.records.Record.{Record}
-use Rattle.image_model.specs.declared.places.TheConstants.{LOG_START}
-use Rattle.image_model.specs.Recovered.{replayed}
+use Rattle.format_numbers.specs.declared.TheConstants.{LOG_START}
+use Rattle.component_image.specs.Replayed.{replayed}
 use Rattle.comp_dir.specs.Directory.{Numbered, directory_of}
 use Rattle.comp_dir.specs.Parts.{HasPages, tree, main_tree}
 use Rattle.comp_dir.specs.declared.places.TheConstants.{MAIN_LEAVES, MAIN_INNERS}

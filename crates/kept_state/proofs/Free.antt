@@ -12,7 +12,7 @@ use Rattle.dev_model.specs.Laws.Ranges.{part-patched}
 use Rattle.table_model.specs.Table.{Table}
 use Rattle.wal_log.specs.declared.places.TheConstants.{LOG_BYTES}
 use Rattle.wal_log.specs.declared.log.Log.{Log}
-use Rattle.image_model.specs.declared.places.TheConstants.{LOG_START}
+use Rattle.format_numbers.specs.declared.TheConstants.{LOG_START}
 use Rattle.wal_log.specs.Segments.{segments_of}
 use Rattle.comp_dir.specs.Directory.{directory_of}
 use Rattle.component_image.specs.Recovered.{Recovers}

@@ -21,8 +21,8 @@ use Rattle.wal_log.specs.Changes.{HasRecordsOr, HasSameRecords, OpensAs}
 use Rattle.wal_log.specs.declared.places.TheConstants.{LOG_BYTES}
 use Rattle.wal_log.specs.declared.log.Log.{Log}
 use Rattle.wal_log.specs.declared.records.Record.{Record}
-use Rattle.image_model.specs.declared.places.TheConstants.{LOG_START}
-use Rattle.image_model.specs.Recovered.{write_of}
+use Rattle.format_numbers.specs.declared.TheConstants.{LOG_START}
+use Rattle.component_image.specs.Replayed.{write_of}
 use Rattle.comp_dir.specs.Directory.{Directory, directory_of}
 use Rattle.comp_dir.specs.declared.places.TheConstants.{PRIMARY}
 use Rattle.component_image.specs.Components.{components, end_of}

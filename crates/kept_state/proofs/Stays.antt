@@ -8,7 +8,7 @@ use Rattle.dev_model.specs.Laws.Ranges.{part-same}
 use Rattle.table_model.specs.Table.{Table}
 use Rattle.wal_log.specs.declared.places.TheConstants.{LOG_BYTES}
 use Rattle.wal_log.specs.declared.log.Log.{Log}
-use Rattle.image_model.specs.declared.places.TheConstants.{LOG_START}
+use Rattle.format_numbers.specs.declared.TheConstants.{LOG_START}
 use Rattle.comp_dir.specs.Directory.{Directory, Numbered, directory_of, open_slots}
 use Rattle.comp_dir.specs.declared.places.TheConstants.{FIRST_DATA_PAGE, PRIMARY}
 use Rattle.comp_dir.specs.declared.slots.Slot.{Slot}

@@ -21,7 +21,7 @@ ghost use Rattle.kept_state.specs.Steps.{IsWritten};
 
 use comp_dir::{SLOT_BYTES, SLOTS, Slot, open_gate, write_slot};
 use dev_model::{Device, Failed};
-use image_model::{LOG_PAGES, LOG_START};
+use format_numbers::{FIRST_DATA_PAGE, LOG_START};
 
 /// Installs a component whose pages are written: writes its slot, syncs, opens the slot's gate and syncs. It stops at the call
 /// that fails. The first sync puts the pages on the disk too, so a component is open only where its pages are.
@@ -31,7 +31,7 @@ pub(crate) fn install_component<D: Device>(
     slot: &Slot,
 ) -> Result<(), Failed>
     requires below { n < SLOTS }
-    requires pages { LOG_PAGES ≤ (D.seen device.old).pages }
+    requires pages { FIRST_DATA_PAGE ≤ (D.seen device.old).pages }
 
     ensures did { Did (install_calls n slot.now) (D.seen device.old).story (D.seen device.new).story result }
     ensures ticks { Ticks 4 (D.seen device.old).clock (D.seen device.new).clock result }

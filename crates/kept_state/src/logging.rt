@@ -14,7 +14,7 @@ ghost use Rattle.wal_log.specs.Segments.{segments_of};
 ghost use Rattle.wal_log.specs.State.{turn_calls, following};
 ghost use Rattle.wal_log.specs.Counted.{IsCounted};
 ghost use Rattle.wal_log.specs.Changes.{append_calls, appended, turned, close_count};
-ghost use Rattle.image_model.specs.Recovered.{write_of};
+ghost use Rattle.component_image.specs.Replayed.{write_of};
 ghost use Rattle.comp_dir.specs.Directory.{directory_of};
 ghost use Rattle.component_image.specs.Components.{end_of};
 ghost use Rattle.component_image.specs.Recovered.{primary_of, Recovers};
@@ -23,7 +23,7 @@ ghost use Rattle.component_image.specs.Standing.{RecoversEither};
 ghost use Rattle.component_image.specs.Told.{SaysOld};
 
 use dev_model::{Device, Failed};
-use image_model::{LOG_PAGES, LOG_START};
+use format_numbers::{FIRST_DATA_PAGE, LOG_START};
 use wal_log::{LOG_BYTES, LSN_LIMIT, Log, MOST_RECORDS, Record};
 
 /// Logs a write of the store. It answers the device's clock from which on each crash leaves it.
@@ -37,7 +37,7 @@ pub(crate) fn append_record<D: Device>(
     requires next { logged.now.lsn ≡ log.old.next_lsn }
     requires below { logged.now.lsn < LSN_LIMIT }
     requires has_old { HasOld logged.now.op logged.now.old_point }
-    requires pages { LOG_PAGES ≤ (D.seen device.old).pages }
+    requires pages { FIRST_DATA_PAGE ≤ (D.seen device.old).pages }
     requires counted { IsCounted log.old }
 
     ensures did { Did (append_calls log.old logged.now) (D.seen device.old).story (D.seen device.new).story result }
@@ -74,7 +74,7 @@ pub(crate) fn append_record<D: Device>(
 pub(crate) fn change_segments<D: Device>(device: &mut D, log: &mut Log) -> Result<(), Failed>
     requires start { log.old.start ≡ LOG_START }
     requires some { 1 ≤ log.old.records }
-    requires pages { LOG_PAGES ≤ (D.seen device.old).pages }
+    requires pages { FIRST_DATA_PAGE ≤ (D.seen device.old).pages }
     requires counted { IsCounted log.old }
 
     ensures did { Did (turn_calls log.old) (D.seen device.old).story (D.seen device.new).story result }

@@ -15,7 +15,7 @@ ghost use Rattle.kept_state.specs.Steps.{IsFree, HasPage};
 
 use comp_dir::FIRST_DATA_PAGE;
 use dev_model::{Device, Failed};
-use image_model::LOG_START;
+use format_numbers::LOG_START;
 use page_codec::PAGE_BYTES;
 
 /// Writes a page behind the log, in one write, and doesn't sync. Where no component has the page, each crash at each moment

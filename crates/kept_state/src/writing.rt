@@ -11,7 +11,7 @@ ghost use Rattle.wal_log.specs.Records.{HasOld, record_bytes};
 ghost use Rattle.wal_log.specs.State.{turn_calls, following};
 ghost use Rattle.wal_log.specs.Counted.{IsCounted};
 ghost use Rattle.wal_log.specs.Changes.{append_calls, close_count};
-ghost use Rattle.image_model.specs.Recovered.{write_of};
+ghost use Rattle.component_image.specs.Replayed.{write_of};
 ghost use Rattle.primary_ix.specs.Wanted.{written_row};
 ghost use Rattle.primary_ix.specs.declared.rows.PrimRow.{PrimRow};
 ghost use Rattle.component_image.specs.Recovered.{Recovers};
@@ -27,8 +27,8 @@ ghost use Rattle.kept_state.specs.Writing.{next_record};
 use crate::laws::lists_have_rules;
 use crate::logging::{append_record, change_segments};
 use dev_model::{Device, Failed};
+use format_numbers::{FIRST_DATA_PAGE, LOG_START};
 use geo_base::{Note, Point};
-use image_model::{LOG_PAGES, LOG_START};
 use store_state::State;
 use wal_log::{LOG_BYTES, LSN_LIMIT, Log, LogOp, MOST_RECORDS, Record};
 
@@ -45,7 +45,7 @@ pub fn log_write<D: Device>(
     requires room_in_memory { 1 ≤ state.old.1 }
     requires below { log.old.next_lsn < LSN_LIMIT }
     requires has_old { HasOld op.now old_point }
-    requires pages { LOG_PAGES ≤ (D.seen device.old).pages }
+    requires pages { FIRST_DATA_PAGE ≤ (D.seen device.old).pages }
     requires numbered { IsNumbered log.old state.old.0 }
     requires counted { IsCounted log.old }
 
@@ -105,7 +105,7 @@ fn row_of(op: &LogOp) -> (u64, Option<(Point, Note)>)
 pub fn freeze<D: Device>(device: &mut D, log: &mut Log, state: &mut State) -> Result<(), Failed>
     requires none_frozen { state.old.0.frozen ≡ None }
     requires some { 1 ≤ log.old.records }
-    requires pages { LOG_PAGES ≤ (D.seen device.old).pages }
+    requires pages { FIRST_DATA_PAGE ≤ (D.seen device.old).pages }
     requires numbered { IsNumbered log.old state.old.0 }
     requires counted { IsCounted log.old }
 

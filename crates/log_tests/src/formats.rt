@@ -3,8 +3,8 @@ ghost use Rattle.std.specs.Prelude.{◌≡◌, IfSome};
 
 use dev_model::Device;
 use device_format::format_dev;
+use format_numbers::{FIRST_DATA_PAGE, LOG_START};
 use geo_base::{IndexSet, Point};
-use image_model::{LOG_PAGES, LOG_START};
 use mem_device::{MemDevice, Torn};
 use std::alloc::Global;
 use std::test::Fail;
@@ -25,7 +25,7 @@ enum Finding {
 fn zeros(alloc: Global, fail: Vec<u64>) -> Option<MemDevice>
     ensures { IfSome result (λ device. device.pages ≡ 265) }
 {
-    MemDevice::new(alloc, LOG_PAGES, 4000, 4000, fail).ok()
+    MemDevice::new(alloc, FIRST_DATA_PAGE, 4000, 4000, fail).ok()
 }
 
 /// A device with an open gate of each kind, and a byte that isn't 0 in each field.
@@ -48,7 +48,7 @@ fn garbage(alloc: Global, fail: Vec<u64>) -> Option<MemDevice>
 
 /// Formats the device with the indexes of these bits, and answers whether that succeeded.
 fn format(device: &mut MemDevice, bits: u8) -> Option<bool> {
-    if device.pages() < LOG_PAGES {
+    if device.pages() < FIRST_DATA_PAGE {
         return None;
     }
     let indexes = IndexSet::of_bits(bits)?;
@@ -58,7 +58,7 @@ fn format(device: &mut MemDevice, bits: u8) -> Option<bool> {
 fn has_open_slot(device: &mut MemDevice) -> Option<bool> {
     let mut is_open = false;
     for slot in 0..512u64 {
-        if device.pages() < LOG_PAGES {
+        if device.pages() < FIRST_DATA_PAGE {
             return None;
         }
         let mut gate = [0];
@@ -69,7 +69,7 @@ fn has_open_slot(device: &mut MemDevice) -> Option<bool> {
 }
 
 fn find_log(device: &mut MemDevice, bits: u8, alloc: Global) -> Finding {
-    if device.pages() < LOG_PAGES {
+    if device.pages() < FIRST_DATA_PAGE {
         return Finding::Refused;
     }
     match Log::read_all(device, LOG_START, &[0], alloc) {
@@ -80,7 +80,7 @@ fn find_log(device: &mut MemDevice, bits: u8, alloc: Global) -> Finding {
 
 /// Looks at the device as an opening does.
 fn find(device: &mut MemDevice, alloc: Global) -> Option<Finding> {
-    if device.pages() < LOG_PAGES {
+    if device.pages() < FIRST_DATA_PAGE {
         return None;
     }
     let mut superblock = [0; 16];
@@ -98,7 +98,7 @@ fn find(device: &mut MemDevice, alloc: Global) -> Option<Finding> {
 
 /// Adds a record to the log of a store.
 fn add_record(device: &mut MemDevice, alloc: Global) -> Option<()> {
-    if device.pages() < LOG_PAGES {
+    if device.pages() < FIRST_DATA_PAGE {
         return None;
     }
     let (mut log, _) = Log::read_all(device, LOG_START, &[0], alloc).ok()?;

@@ -1,18 +1,18 @@
 // What no proof sees: that the definitions say what was meant. Expected answers are worked out by hand.
 ghost use Rattle.std.specs.Prelude.{◌≡◌, ◌<◌, IfSome};
 ghost use Rattle.comp_dir.specs.declared.places.TheConstants.{SLOTS};
-ghost use Rattle.image_model.specs.declared.places.TheConstants.{LOG_START};
+ghost use Rattle.format_numbers.specs.declared.TheConstants.{LOG_START};
 ghost use Rattle.wal_log.specs.Counted.{IsCounted};
 
 use comp_dir::{SLOTS, Slot, install_slot};
 use dev_model::Device;
-use device_format::superblock_bytes;
+use format_numbers::LOG_START;
 use geo_base::{IndexSet, Note, Point, Row};
-use image_model::LOG_START;
 use mem_device::MemDevice;
 use std::alloc::Global;
 use std::test::Fail;
 use store_opening::{OpenFault, open_state};
+use superblock::superblock_bytes;
 use wal_log::{LSN_LIMIT, Log, LogOp, MOST_RECORDS, Record, start_segment};
 
 /// The first page behind the log.

@@ -5,7 +5,7 @@ use Rattle.dev_model.specs.Story.{Bytes, Story, after, bytes_of, IsImageNow, Whe
 use Rattle.dev_model.specs.Moments.{LeavesOnly}
 use Rattle.dev_model.specs.Laws.Reads.{LeavesOnly-reads}
 use Rattle.dev_model.specs.Laws.Runs.{LeavesOnly-start, LeavesOnly-weaker}
-use Rattle.image_model.specs.Opening.{IsOpeningRange}
+use Rattle.component_image.specs.Recovered.{IsOpeningRange}
 use Rattle.table_model.specs.Table.{Table}
 use Rattle.table_model.specs.Commands.{Command}
 use Rattle.table_model.specs.Phases.{Phases}

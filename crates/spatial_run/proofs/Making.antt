@@ -9,7 +9,7 @@ use Rattle.dev_model.specs.Counts.{Rose}
 use Rattle.dev_model.specs.Story.{Bytes, Story, after, clock_of, WhereTold}
 use Rattle.dev_model.specs.Moments.{EachMoment, ReadsWithin}
 use Rattle.dev_model.specs.Laws.Runs.{after-append}
-use Rattle.image_model.specs.Opening.{IsOpeningRange}
+use Rattle.component_image.specs.Recovered.{IsOpeningRange}
 use Rattle.table_model.specs.Answers.{replay}
 use Rattle.table_model.specs.Commands.{Command, Outcome}
 use Rattle.table_model.specs.declared.Why.{Why}

@@ -11,8 +11,7 @@ use Rattle.geo_base.specs.declared.points.Point.{Point}
 use Rattle.table_model.specs.Table.{Table}
 use Rattle.wal_log.specs.declared.log.Log.{Log}
 use Rattle.wal_log.specs.declared.records.LogOp.TheVariants.{Put, Del}
-use Rattle.image_model.specs.Opening.{IsOpeningRange}
-use Rattle.component_image.specs.Recovered.{Recovers}
+use Rattle.component_image.specs.Recovered.{Recovers, IsOpeningRange}
 use Rattle.component_image.specs.Resting.{Rests}
 use Rattle.component_image.specs.Laws.Agreeing.{recovers-same}
 use Rattle.store_machine.specs.Crash.{acked_by, Keeps}

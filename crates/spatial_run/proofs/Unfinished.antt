@@ -5,7 +5,7 @@ use Rattle.table_model.specs.Commands.{TableCommand, Command, on_table, flush, w
 use Rattle.table_model.specs.declared.Why.{Why}
 use Rattle.table_model.specs.declared.Why.TheVariants as why
 use Rattle.wal_log.specs.declared.records.LogOp.{LogOp}
-use Rattle.image_model.specs.Recovered.{write_of}
+use Rattle.component_image.specs.Replayed.{write_of}
 use Rattle.store_machine.specs.Commands.{is_upkeep, own, word_of, IsSaid, write_outcome, IsCall, Does, DoesAll, stopped_group}
 use Rattle.store_machine.specs.Machine.{Machine, after_event, after_all, group_of}
 use Rattle.store_machine.specs.Outcomes.{Group}

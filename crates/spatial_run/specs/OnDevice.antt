@@ -12,8 +12,7 @@ use Rattle.table_model.specs.declared.Why.TheVariants.{Fault}
 use Rattle.table_model.specs.Phases.{Phases}
 use Rattle.table_model.specs.Record.{RunRecord, FitsScript, IsAnswered, history}
 use Rattle.table_model.specs.Table.{Table}
-use Rattle.image_model.specs.Opening.{IsOpeningRange}
-use Rattle.component_image.specs.Recovered.{Opens, IsLookedAt, Recovers}
+use Rattle.component_image.specs.Recovered.{Opens, IsLookedAt, Recovers, IsOpeningRange}
 use Rattle.device_format.specs.Formatting.{IsFreshStore, HasNoStore, IsBeforeOrAfter, IsNoneOrEmpty}
 use Rattle.store_opening.specs.Openings.{IsRefusal, HasFaulted}
 use Rattle.store_opening.specs.declared.opening.OpenFault.{OpenFault}

@@ -6,7 +6,7 @@ use Rattle.std.proofs.lemmas.List.Elements.{Contains-push}
 use Rattle.table_model.specs.Commands.{TableCommand, on_table, flush, write, Outcome, quiet, refused}
 use Rattle.table_model.specs.declared.Why.{Why}
 use Rattle.wal_log.specs.declared.records.LogOp.{LogOp}
-use Rattle.image_model.specs.Recovered.{write_of}
+use Rattle.component_image.specs.Replayed.{write_of}
 use Rattle.store_machine.specs.Commands.{is_upkeep, own, word_of, refusal_of, words_of, words, write_outcome, get_outcome, region_outcome, IsCall, looks, look_in, IsRefusedFlush, Does}
 use Rattle.table_model.specs.Record.{refused_word}
 use Rattle.store_machine.specs.Standing.{StoreState}

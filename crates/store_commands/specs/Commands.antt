@@ -1,7 +1,7 @@
 -- What a command of an owner does to a store.
 use Rattle.std.specs.Prelude.{◌≡◌, ◌≢◌, ◌⊎◌, ℕ, ◌<◌, ◌≤◌, List, [], ◌∷◌, ◌++◌, Option, None, Some, All, Result, Ok, Err}
 use Rattle.std.specs.Option.{option_to_list}
-use Rattle.image_model.specs.Recovered.{write_of}
+use Rattle.component_image.specs.Replayed.{write_of}
 use Rattle.table_model.specs.Commands.{TableCommand, write, Command, Outcome, quiet, refused}
 use Rattle.table_model.specs.Record.{refused_word}
 use Rattle.table_model.specs.declared.Why.{Why}

@@ -1,6 +1,6 @@
 // Writes, with the upkeep that makes room for them.
 ghost use Rattle.std.specs.Prelude.{◌≡◌};
-ghost use Rattle.image_model.specs.Recovered.{write_of};
+ghost use Rattle.component_image.specs.Replayed.{write_of};
 ghost use Rattle.table_model.specs.Commands.{on_table, write};
 ghost use Rattle.store_core.specs.Stores.{state_of};
 ghost use Rattle.store_machine.specs.Commands.{write_outcome};

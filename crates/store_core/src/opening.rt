@@ -2,8 +2,7 @@
 ghost use Rattle.std.specs.Prelude.{◌≡◌, ◌≤◌, [], None, IfOk, IfErr};
 ghost use Rattle.dev_model.specs.Story.{WhereTold, bytes_of, IsCalmAt};
 ghost use Rattle.dev_model.specs.Moments.{ReadsWithin};
-ghost use Rattle.image_model.specs.Opening.{IsOpeningRange};
-ghost use Rattle.component_image.specs.Recovered.{IsLookedAt};
+ghost use Rattle.component_image.specs.Recovered.{IsLookedAt, IsOpeningRange};
 ghost use Rattle.store_opening.specs.Openings.{IsRefusal, HasFaulted};
 ghost use Rattle.store_machine.specs.Calls.{IsReady};
 ghost use Rattle.store_machine.specs.Standing.{StandsSince};

@@ -1,7 +1,7 @@
 -- What the calls of a store need and promise.
 use Rattle.std.specs.Prelude.{◌≡◌, ℕ, ◌≤◌, Bool, false, List, [], ◌∷◌, ◌++◌, Some}
 use Rattle.wal_log.specs.Counted.{IsCounted}
-use Rattle.image_model.specs.declared.places.TheConstants.{LOG_PAGES}
+use Rattle.format_numbers.specs.declared.TheConstants.{FIRST_DATA_PAGE}
 use Rattle.store_state.specs.EveryList.{IsLists}
 use Rattle.store_state.specs.Numbered.{IsNumbered}
 use Rattle.store_machine.specs.Machine.{Opening}
@@ -12,7 +12,7 @@ use Rattle.store_machine.specs.declared.events.Event.{Event}
 
 -- what each call needs of a store, and leaves
 pub record IsReady (store : StoreState) : Type 0 where
-  pub pages : LOG_PAGES ≤ store.device.pages
+  pub pages : FIRST_DATA_PAGE ≤ store.device.pages
   pub space : store.lists.space.pages ≡ store.device.pages
   pub lists : IsLists store.lists
   pub numbered : IsNumbered store.log store.lists

@@ -12,7 +12,7 @@ use Rattle.table_model.specs.Table.{place_of}
 use Rattle.table_model.specs.Commands as command
 use Rattle.wal_log.specs.declared.log.Log.{Log}
 use Rattle.wal_log.specs.declared.records.LogOp.TheVariants.{Put, Del}
-use Rattle.image_model.specs.declared.places.TheConstants.{LOG_START}
+use Rattle.format_numbers.specs.declared.TheConstants.{LOG_START}
 use Rattle.comp_dir.specs.declared.slots.Slot.{Slot}
 use Rattle.page_codec.specs.declared.kinds.TheConstants.{PRIMARY_LEAF}
 use Rattle.primary_ix.specs.Wanted.{matter_row}

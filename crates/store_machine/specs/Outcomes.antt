@@ -2,7 +2,7 @@
 use Rattle.std.specs.Prelude.{List, [], ◌∷◌, ◌++◌}
 use Rattle.table_model.specs.Table.{Table}
 use Rattle.table_model.specs.Commands.{Write as TableWrite, put, del, Command, on_table, write, del_old, wrote, Outcome, answered}
-use Rattle.image_model.specs.Recovered.{after_writes}
+use Rattle.table_model.specs.Answers.{after_writes}
 
 -- writes that are logged together
 abbrev pub Group : Type 0

@@ -4,9 +4,8 @@ use Rattle.dev_model.specs.Story.{Story, Calls, after, clock_of, bytes_of, IsCal
 use Rattle.dev_model.specs.Moments.{ReadsWithin}
 use Rattle.dev_model.specs.DeviceCalls.{ok_calls}
 use Rattle.table_model.specs.Table.{Table}
-use Rattle.image_model.specs.Superblock.{declared}
-use Rattle.image_model.specs.Opening.{IsOpeningRange}
-use Rattle.component_image.specs.Recovered.{IsLookedAt}
+use Rattle.superblock.specs.Superblock.{declared}
+use Rattle.component_image.specs.Recovered.{IsLookedAt, IsOpeningRange}
 use Rattle.primary_ix.specs.declared.rows.PrimRow.{PrimRow}
 use Rattle.store_state.specs.Held.{IsHeld}
 use Rattle.store_machine.specs.Damage.{DamagesAre}

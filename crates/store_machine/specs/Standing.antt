@@ -5,9 +5,8 @@ use Rattle.dev_model.specs.Moments.{EachMoment, ReadsWithin}
 use Rattle.dev_model.specs.DeviceCalls.{ok_calls}
 use Rattle.table_model.specs.Table.{Table, rows_of}
 use Rattle.wal_log.specs.declared.log.Log.{Log}
-use Rattle.image_model.specs.Superblock.{declared}
-use Rattle.image_model.specs.Opening.{IsOpeningRange}
-use Rattle.component_image.specs.Recovered.{Opens, IsLookedAt, IsContent, Recovers}
+use Rattle.superblock.specs.Superblock.{declared}
+use Rattle.component_image.specs.Recovered.{Opens, IsLookedAt, IsContent, Recovers, IsOpeningRange}
 use Rattle.primary_ix.specs.declared.rows.PrimRow.{PrimRow}
 use Rattle.store_machine.specs.Crash.{attempted, Keeps}
 use Rattle.store_machine.specs.Damage.{DamagesAre}

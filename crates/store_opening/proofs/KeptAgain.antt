@@ -20,10 +20,9 @@ use Rattle.wal_log.specs.Counted.{IsCounted}
 use Rattle.wal_log.specs.Laws.Later.{AreNumbered, numbered, numbered-end, length-bodies, later-whole, later-split}
 use Rattle.wal_log.specs.declared.log.Log.{Log}
 use Rattle.wal_log.specs.declared.records.Record.{Record}
-use Rattle.image_model.specs.Opening.{IsLookedInSuperblock, IsOpeningRange}
-use Rattle.image_model.specs.Superblock.{declared}
-use Rattle.image_model.specs.Recovered.{write_of, replayed}
-use Rattle.image_model.specs.declared.places.TheConstants.{LOG_START}
+use Rattle.superblock.specs.Superblock.{IsLookedInSuperblock, declared}
+use Rattle.component_image.specs.Replayed.{write_of, replayed}
+use Rattle.format_numbers.specs.declared.TheConstants.{LOG_START}
 use Rattle.comp_dir.specs.Slots.{slot_bytes, slot_of}
 use Rattle.comp_dir.specs.Directory.{Numbered, directory_of}
 use Rattle.comp_dir.specs.declared.places.TheConstants.{PRIMARY}
@@ -34,7 +33,7 @@ use Rattle.component_image.specs.Changes.{changed}
 use Rattle.component_image.specs.Components.{components, end_of}
 use Rattle.component_image.specs.Content.{ShowAll, Count}
 use Rattle.component_image.specs.Laid.{table_of}
-use Rattle.component_image.specs.Recovered.{primary_of, Opens, IsLookedAt, IsContent, Recovers}
+use Rattle.component_image.specs.Recovered.{primary_of, Opens, IsLookedAt, IsContent, Recovers, IsOpeningRange}
 use Rattle.component_image.specs.Resting.{Rests}
 use Rattle.component_image.specs.Told.{AreTold}
 use Rattle.component_image.specs.Counted.{counted}

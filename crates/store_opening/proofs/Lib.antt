@@ -2,4 +2,3 @@ mod InOrder
 mod KeptAgain
 mod OpeningRead
 mod Restoring
-mod SuperblockRead

@@ -18,9 +18,8 @@ use Rattle.wal_log.specs.declared.reading.LogFault.{LogFault}
 use Rattle.wal_log.specs.declared.reading.LogFault.TheVariants as log
 use Rattle.wal_log.specs.declared.log.Log.{Log}
 use Rattle.wal_log.specs.declared.records.Record.{Record}
-use Rattle.image_model.specs.Superblock.{IsFormatted, declared}
-use Rattle.image_model.specs.Opening.{IsLookedInSuperblock, IsLookedInLog, IsOpeningRange}
-use Rattle.image_model.specs.declared.places.TheConstants.{LOG_START}
+use Rattle.superblock.specs.Superblock.{IsFormatted, declared, IsLookedInSuperblock}
+use Rattle.format_numbers.specs.declared.TheConstants.{LOG_START}
 use Rattle.comp_dir.specs.Reads.{ReadsDirectory, IsInDirectory}
 use Rattle.comp_dir.specs.Directory.{Numbered, directory_of, open_slots, IsLooked}
 use Rattle.comp_dir.specs.Rules.{AllObey}
@@ -31,7 +30,7 @@ use Rattle.comp_dir.specs.Faults.{WhereBad as WhereBadSlot, FaultRose as SlotFau
 use Rattle.comp_dir.specs.declared.faults.DirFault.{DirFault}
 use Rattle.comp_dir.specs.declared.faults.DirFault.TheVariants as dir
 use Rattle.comp_dir.specs.declared.places.TheConstants.{LSN_LIMIT}
-use Rattle.component_image.specs.Recovered.{IsLookedAt}
+use Rattle.component_image.specs.Recovered.{IsLookedAt, IsLookedInLog, IsOpeningRange}
 use Rattle.store_state.specs.Lists.{placed_up_to}
 use Rattle.store_state.specs.EveryList.{IsOpenSlot}
 use Rattle.store_opening.specs.Read.{HasRead, HasSlots, AreChosen, AreLawfulSlots, IsDirectoryRefusal, slots_fault, log_fault}

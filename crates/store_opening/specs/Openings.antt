@@ -4,8 +4,8 @@ use Rattle.dev_model.specs.Counts.{Rose}
 use Rattle.dev_model.specs.Story.{Bytes}
 use Rattle.wal_log.specs.Segments.{segments_of}
 use Rattle.wal_log.specs.Bad.{IsBad}
-use Rattle.image_model.specs.Superblock.{IsFormatted}
-use Rattle.image_model.specs.declared.places.TheConstants.{LOG_START}
+use Rattle.superblock.specs.Superblock.{IsFormatted}
+use Rattle.format_numbers.specs.declared.TheConstants.{LOG_START}
 use Rattle.comp_dir.specs.Directory.{directory_of}
 use Rattle.comp_dir.specs.Choosing.{Opens as DirectoryOpens}
 use Rattle.comp_dir.specs.Bad.{IsBadSlot}

@@ -4,9 +4,8 @@ ghost use Rattle.dev_model.specs.Story.{WhereTold, bytes_of, IsCalmAt};
 ghost use Rattle.dev_model.specs.Moments.{ReadsWithin};
 ghost use Rattle.table_model.specs.Table.{Table};
 ghost use Rattle.wal_log.specs.Counted.{IsCounted};
-ghost use Rattle.image_model.specs.Opening.{IsOpeningRange};
-ghost use Rattle.image_model.specs.Superblock.{declared};
-ghost use Rattle.component_image.specs.Recovered.{Opens, IsLookedAt, IsContent, Recovers};
+ghost use Rattle.superblock.specs.Superblock.{declared};
+ghost use Rattle.component_image.specs.Recovered.{Opens, IsLookedAt, IsContent, Recovers, IsOpeningRange};
 ghost use Rattle.store_state.specs.Lists.{placed_up_to};
 ghost use Rattle.store_state.specs.EveryList.{IsLists};
 ghost use Rattle.store_state.specs.Keeping.{IsKept};
@@ -16,11 +15,11 @@ ghost use Rattle.store_opening.specs.Read.{HasRead, AreLawfulSlots, log_fault};
 
 use crate::replay::state_of;
 use crate::slots::{OpenSlots, read_slots};
-use crate::superblock::read_superblock;
+use crate::superblock::read_indexes;
 use comp_dir::Slot;
 use dev_model::Device;
+use format_numbers::{FIRST_DATA_PAGE, LOG_START};
 use geo_base::IndexSet;
-use image_model::{LOG_PAGES, LOG_START};
 use space_map::{LEAST_PAGES, MOST_PAGES};
 use std::alloc::Global;
 use store_state::State;
@@ -90,7 +89,7 @@ fn placed_up_to(components: &[(u16, Slot)]) -> u64
 
 // Reads all that an opening looks at.
 fn read_image<D: Device>(alloc: Global, device: &mut D) -> Result<Image, OpenFault>
-    requires pages { LOG_PAGES ≤ (D.seen device.old).pages }
+    requires pages { FIRST_DATA_PAGE ≤ (D.seen device.old).pages }
     ensures read { IfOk result (λ image. WhereTold (D.seen device.old).story (λ s. IsCalmAt (IsLookedAt (bytes_of s)) s →
         HasRead (D.seen device.old).pages s (D.seen device.new).story image.indexes image.slots.components.items image.slots.ignored.items image.log image.records.items)) }
     ensures start { IfOk result (λ image. image.log.start ≡ LOG_START) }
@@ -104,7 +103,7 @@ fn read_image<D: Device>(alloc: Global, device: &mut D) -> Result<Image, OpenFau
     ensures reads { WhereTold (D.seen device.old).story (λ s. ReadsWithin IsOpeningRange s (D.seen device.new).story) }
     ensures same_pages { (D.seen device.new).pages ≡ (D.seen device.old).pages }
 {
-    let indexes = match read_superblock(device) {
+    let indexes = match read_indexes(device) {
         Ok(indexes) => indexes,
         Err(fault) => return Err(fault),
     };

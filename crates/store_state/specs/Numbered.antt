@@ -1,7 +1,7 @@
 -- How the numbers of the lists belong to those of the log.
 use Rattle.std.specs.Prelude.{◌≡◌, ◌+◌}
 use Rattle.wal_log.specs.declared.log.Log.{Log}
-use Rattle.image_model.specs.declared.places.TheConstants.{LOG_START}
+use Rattle.format_numbers.specs.declared.TheConstants.{LOG_START}
 use Rattle.store_state.specs.Lists.{Lists}
 
 -- The numbers of the lists are those of the log, whatever the device tells.

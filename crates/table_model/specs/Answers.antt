@@ -40,3 +40,8 @@ replay t (c ∷ cs) = replay (table_after t c) cs
 abbrev pub replies : Table → List TableCommand → List Reply
 replies t [] = []
 replies t (c ∷ cs) = reply_to t c ∷ replies (table_after t c) cs
+
+-- the table after a list of writes
+abbrev pub after_writes : Table → List Write → Table
+after_writes t [] = t
+after_writes t (w ∷ ws) = after_writes (after_write t w) ws

@@ -10,12 +10,12 @@ use Rattle.btree_image.specs.Image.{shape_of, level_kind, level_rows}
 use Rattle.table_model.specs.Table.{Table}
 use Rattle.wal_log.specs.Later.{later}
 use Rattle.wal_log.specs.Segments.{Segments, segments_of}
+use Rattle.wal_log.specs.Laws.Agreeing.{segments_of-same, segment_at-same}
 use Rattle.wal_log.specs.Rules.{Opens as LogOpens, records_of}
-use Rattle.image_model.specs.declared.places.TheConstants.{LOG_START}
-use Rattle.image_model.specs.Superblock.{declared}
-use Rattle.image_model.specs.Opening.{IsLookedInSuperblock}
-use Rattle.image_model.specs.Recovered.{replayed}
-use Rattle.image_model.specs.Laws.Agreeing.{formatted-same, log-same}
+use Rattle.format_numbers.specs.declared.TheConstants.{LOG_START}
+use Rattle.superblock.specs.Superblock.{declared, IsLookedInSuperblock}
+use Rattle.component_image.specs.Replayed.{replayed}
+use Rattle.superblock.specs.Laws.Agreeing.{formatted-same}
 use Rattle.comp_dir.specs.Directory.{Directory, directory_of}
 use Rattle.comp_dir.specs.Choosing.{Opens as DirectoryOpens}
 use Rattle.comp_dir.specs.Parts.{HasParts, HasPages, main_tree, tree}
@@ -28,7 +28,7 @@ use Rattle.component_image.specs.Components.{components, end_of, IsInExtent, IsI
 use Rattle.component_image.specs.Content.{page_at, Shows, ShowAll, Count}
 use Rattle.component_image.specs.Laid.{table_of}
 use Rattle.component_image.specs.Told.{AreTold}
-use Rattle.component_image.specs.Recovered.{primary_of, ends_of, IsLookedAt, IsContent, Recovers}
+use Rattle.component_image.specs.Recovered.{primary_of, ends_of, IsLookedInLog, IsLookedAt, IsContent, Recovers}
 use Rattle.component_image.specs.Laws.Components.{AllOf, components-all}
 
 -- a component of the primary whose parts lie in its extent
@@ -92,6 +92,10 @@ recovers-beside pages table a b r agree log told =
       table_is = ap (λ (x : List Slot). replayed (table_of r.lists) (later (end_of x) (records_of (segments_of LOG_START b)))) (sym slots);
       told = subst (λ (x : List Slot). AreTold (table_of r.lists) (later (end_of x) (records_of (segments_of LOG_START b)))) (sym slots) told;
     }
+
+-- images that agree where an opening looks in the log have the same log
+pub log-same : (a b : Bytes) → ((i : ℕ) → IsLookedInLog a i → b i ≡ a i) → segments_of LOG_START b ≡ segments_of LOG_START a
+log-same a b same = segments_of-same LOG_START a b (λ j lt. segment_at-same LOG_START j a b (λ i looked. same i (j, lt, looked)))
 
 -- images that agree at all that an opening looks at and at the pages of the components recover to the same table
 pub recovers-same : (pages : ℕ) (table : Table) (a b : Bytes) → ((i : ℕ) → IsLookedAt a i → b i ≡ a i) → ((i : ℕ) → IsContent a i → b i ≡ a i) → Recovers pages table a → Recovers pages table b

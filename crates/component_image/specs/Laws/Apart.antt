@@ -7,9 +7,9 @@ use Rattle.dev_model.specs.Laws.Frame.{bytes_of-spared}
 use Rattle.wal_log.specs.Segments.{segments_of}
 use Rattle.wal_log.specs.Laws.Agreeing.{segment_records-few}
 use Rattle.wal_log.specs.declared.places.TheConstants.{LOG_BYTES}
-use Rattle.image_model.specs.declared.places.TheConstants.{LOG_START}
-use Rattle.image_model.specs.Opening.{IsLookedInLog}
-use Rattle.image_model.specs.Laws.Agreeing.{log-same}
+use Rattle.format_numbers.specs.declared.TheConstants.{LOG_START}
+use Rattle.component_image.specs.Recovered.{IsLookedInLog}
+use Rattle.component_image.specs.Laws.Agreeing.{log-same}
 use Rattle.comp_dir.specs.Directory.{directory_of, IsLooked}
 use Rattle.comp_dir.specs.Laws.Agreeing.{directory-same}
 

@@ -19,7 +19,7 @@ use Rattle.wal_log.specs.Records.{key_of}
 use Rattle.wal_log.specs.declared.records.LogOp.{LogOp}
 use Rattle.wal_log.specs.declared.records.LogOp.TheVariants.{Put, Del}
 use Rattle.wal_log.specs.declared.records.Record.{Record}
-use Rattle.image_model.specs.Recovered.{write_of, replayed}
+use Rattle.component_image.specs.Replayed.{write_of, replayed}
 use Rattle.primary_ix.specs.Rows.{Matter}
 use Rattle.primary_ix.specs.declared.rows.PrimRow.{PrimRow}
 use Rattle.component_image.specs.Laid.{place_in, with_matter, laid, table_of}

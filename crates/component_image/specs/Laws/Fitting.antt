@@ -9,8 +9,8 @@ use Rattle.order_merge.specs.Fitting.{unless_anti, Fits}
 use Rattle.order_merge.specs.Views.{lists_of}
 use Rattle.order_merge.specs.laws.Living.{is_eq-Equal}
 use Rattle.wal_log.specs.declared.records.Record.{Record}
-use Rattle.image_model.specs.Recovered.{replayed}
-use Rattle.image_model.specs.Laws.Recovered.{replayed-append}
+use Rattle.component_image.specs.Replayed.{replayed}
+use Rattle.component_image.specs.Laws.Replayed.{replayed-append}
 use Rattle.primary_ix.specs.Rows.{Matter}
 use Rattle.primary_ix.specs.Reading.{prim_reading}
 use Rattle.primary_ix.specs.Wanted.{matter_row, wanted_rows}

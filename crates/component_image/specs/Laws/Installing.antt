@@ -7,11 +7,11 @@ use Rattle.wal_log.specs.Later.{later}
 use Rattle.wal_log.specs.Segments.{Segments, segments_of}
 use Rattle.wal_log.specs.Rules.{Opens as LogOpens, records_of}
 use Rattle.wal_log.specs.declared.records.Record.{Record}
-use Rattle.image_model.specs.declared.places.TheConstants.{LOG_START}
-use Rattle.image_model.specs.Opening.{IsLookedInSuperblock}
-use Rattle.image_model.specs.Recovered.{replayed}
-use Rattle.image_model.specs.Laws.Agreeing.{formatted-same}
-use Rattle.image_model.specs.Laws.Recovered.{replayed-append}
+use Rattle.format_numbers.specs.declared.TheConstants.{LOG_START}
+use Rattle.superblock.specs.Superblock.{IsLookedInSuperblock}
+use Rattle.component_image.specs.Replayed.{replayed}
+use Rattle.superblock.specs.Laws.Agreeing.{formatted-same}
+use Rattle.component_image.specs.Laws.Replayed.{replayed-append}
 use Rattle.comp_dir.specs.Directory.{directory_of}
 use Rattle.comp_dir.specs.Choosing.{Opens as DirectoryOpens}
 use Rattle.comp_dir.specs.declared.slots.Slot.{Slot}

@@ -19,8 +19,8 @@ use Rattle.wal_log.specs.Laws.Apart.{images-apart, rests-apart}
 use Rattle.wal_log.specs.declared.places.TheConstants.{LOG_BYTES}
 use Rattle.wal_log.specs.declared.log.Log.{Log}
 use Rattle.wal_log.specs.declared.records.Record.{Record}
-use Rattle.image_model.specs.declared.places.TheConstants.{LOG_START}
-use Rattle.image_model.specs.Recovered.{write_of}
+use Rattle.format_numbers.specs.declared.TheConstants.{LOG_START}
+use Rattle.component_image.specs.Replayed.{write_of}
 use Rattle.component_image.specs.Components.{end_of}
 use Rattle.component_image.specs.Recovered.{primary_of, ends_of, IsLookedAt, Recovers}
 use Rattle.component_image.specs.Beside.{IsBeside}

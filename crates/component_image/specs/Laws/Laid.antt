@@ -13,7 +13,7 @@ use Rattle.order_merge.specs.Adding.{with_entry}
 use Rattle.order_merge.specs.laws.Living.{entry_at-with_entry}
 use Rattle.order_merge.specs.laws.Numbers.{nat_cmp-IsKeyOrder}
 use Rattle.wal_log.specs.declared.records.Record.{Record}
-use Rattle.image_model.specs.Recovered.{write_of, replayed}
+use Rattle.component_image.specs.Replayed.{write_of, replayed}
 use Rattle.primary_ix.specs.Rows.{Matter}
 use Rattle.primary_ix.specs.Reading.{prim_reading}
 use Rattle.primary_ix.specs.Wanted.{written_row}

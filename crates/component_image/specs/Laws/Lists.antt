@@ -7,7 +7,7 @@ use Rattle.dev_model.specs.Laws.Frame.{bytes_of-spared}
 use Rattle.table_model.specs.Table.{Table}
 use Rattle.wal_log.specs.declared.records.Record.{Record}
 use Rattle.wal_log.specs.declared.places.TheConstants.{LOG_BYTES}
-use Rattle.image_model.specs.declared.places.TheConstants.{LOG_START}
+use Rattle.format_numbers.specs.declared.TheConstants.{LOG_START}
 use Rattle.comp_dir.specs.Directory.{directory_of}
 use Rattle.comp_dir.specs.State.{with_slot}
 use Rattle.comp_dir.specs.declared.places.TheConstants.{PRIMARY}

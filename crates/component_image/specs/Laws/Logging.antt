@@ -10,9 +10,9 @@ use Rattle.wal_log.specs.Segments.{segments_of}
 use Rattle.wal_log.specs.Rules.{records_of}
 use Rattle.wal_log.specs.Changes.{OpensAs, HasRecordsOr, HasSameRecords}
 use Rattle.wal_log.specs.declared.records.Record.{Record}
-use Rattle.image_model.specs.declared.places.TheConstants.{LOG_START}
-use Rattle.image_model.specs.Recovered.{write_of, replayed}
-use Rattle.image_model.specs.Laws.Recovered.{replayed-push}
+use Rattle.format_numbers.specs.declared.TheConstants.{LOG_START}
+use Rattle.component_image.specs.Replayed.{write_of, replayed}
+use Rattle.component_image.specs.Laws.Replayed.{replayed-push}
 use Rattle.component_image.specs.Components.{end_of}
 use Rattle.component_image.specs.Laid.{table_of}
 use Rattle.component_image.specs.Recovered.{primary_of, ends_of, Recovers}

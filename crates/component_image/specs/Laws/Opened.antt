@@ -15,8 +15,8 @@ use Rattle.wal_log.specs.Laws.Apart.{images-apart, rests-apart}
 use Rattle.wal_log.specs.declared.places.TheConstants.{LOG_BYTES}
 use Rattle.wal_log.specs.declared.log.Log.{Log}
 use Rattle.wal_log.specs.declared.records.Record.{Record}
-use Rattle.image_model.specs.declared.places.TheConstants.{LOG_START}
-use Rattle.image_model.specs.Opening.{IsLookedInSuperblock}
+use Rattle.format_numbers.specs.declared.TheConstants.{LOG_START}
+use Rattle.superblock.specs.Superblock.{IsLookedInSuperblock}
 use Rattle.comp_dir.specs.Places.{slot_start}
 use Rattle.comp_dir.specs.Directory.{directory_of}
 use Rattle.comp_dir.specs.Choosing.{Opens as DirectoryOpens}

@@ -11,7 +11,7 @@ use Rattle.wal_log.specs.Segments.{segments_of}
 use Rattle.wal_log.specs.State.{IsAtRest as LogAtRest, IsLogOf}
 use Rattle.wal_log.specs.declared.places.TheConstants.{LOG_BYTES}
 use Rattle.wal_log.specs.declared.log.Log.{Log}
-use Rattle.image_model.specs.declared.places.TheConstants.{LOG_START}
+use Rattle.format_numbers.specs.declared.TheConstants.{LOG_START}
 use Rattle.comp_dir.specs.Directory.{Directory, directory_of}
 use Rattle.comp_dir.specs.Rules.{HasExtent}
 use Rattle.comp_dir.specs.Laws.Agreeing.{directory-same, looked-back}

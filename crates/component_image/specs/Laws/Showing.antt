@@ -16,8 +16,8 @@ use Rattle.table_model.specs.Table.{Table}
 use Rattle.wal_log.specs.Later.{later}
 use Rattle.wal_log.specs.Rules.{records_of}
 use Rattle.wal_log.specs.Segments.{segments_of}
-use Rattle.image_model.specs.declared.places.TheConstants.{LOG_START}
-use Rattle.image_model.specs.Recovered.{replayed}
+use Rattle.format_numbers.specs.declared.TheConstants.{LOG_START}
+use Rattle.component_image.specs.Replayed.{replayed}
 use Rattle.component_image.specs.Components.{end_of}
 use Rattle.component_image.specs.Content.{page_at, Shows, ShowAll}
 use Rattle.component_image.specs.Laid.{table_of}

@@ -11,7 +11,7 @@ use Rattle.wal_log.specs.Rules.{Opens as LogOpens, records_of}
 use Rattle.wal_log.specs.declared.places.TheConstants.{LOG_BYTES}
 use Rattle.wal_log.specs.declared.log.Log.{Log}
 use Rattle.wal_log.specs.declared.records.Record.{Record}
-use Rattle.image_model.specs.declared.places.TheConstants.{LOG_START}
+use Rattle.format_numbers.specs.declared.TheConstants.{LOG_START}
 use Rattle.comp_dir.specs.Directory.{Directory, directory_of}
 use Rattle.comp_dir.specs.Choosing.{Opens as DirectoryOpens}
 use Rattle.comp_dir.specs.State.{with_slot}

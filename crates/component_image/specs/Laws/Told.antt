@@ -3,7 +3,7 @@ use Rattle.std.proofs.Common.{List, [], ◌∷◌, ◌++◌}
 use Rattle.table_model.specs.Table.{Table}
 use Rattle.table_model.specs.Answers.{after_write}
 use Rattle.wal_log.specs.declared.records.Record.{Record}
-use Rattle.image_model.specs.Recovered.{write_of, replayed}
+use Rattle.component_image.specs.Replayed.{write_of, replayed}
 use Rattle.component_image.specs.Told.{SaysOld, AreTold}
 
 -- one record more

@@ -12,7 +12,7 @@ use Rattle.wal_log.specs.Rules.{records_of}
 use Rattle.wal_log.specs.Segments.{segments_of}
 use Rattle.wal_log.specs.declared.log.Log.{Log}
 use Rattle.wal_log.specs.declared.records.Record.{Record}
-use Rattle.image_model.specs.declared.places.TheConstants.{LOG_START}
+use Rattle.format_numbers.specs.declared.TheConstants.{LOG_START}
 use Rattle.space_map.specs.Space.{is_in, is_reserved}
 use Rattle.comp_dir.specs.Adding.{MayBeAdded}
 use Rattle.comp_dir.specs.Choosing.{live_slots, same_index, shares_page}

@@ -2,7 +2,7 @@
 use Rattle.std.proofs.Common.{◌≡◌, ℕ, ◌<◌, ◌≤◌, List, [], ◌∷◌, ◌++◌, length, refl, arith}
 use Rattle.std.proofs.lemmas.Bool.Decides.{nat_tests}
 use Rattle.table_model.specs.Table.{Table}
-use Rattle.image_model.specs.Recovered.{after_writes}
+use Rattle.table_model.specs.Answers.{after_writes}
 use Rattle.store_machine.specs.Outcomes.{Group, after_groups}
 use Rattle.store_machine.specs.Crash.{acked_by}
 use Rattle.store_machine.specs.Standing.{AreUpTo}

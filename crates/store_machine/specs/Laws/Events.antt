@@ -19,7 +19,7 @@ use Rattle.wal_log.specs.declared.places.TheConstants.{MOST_RECORDS}
 use Rattle.wal_log.specs.declared.log.Log.{Log}
 use Rattle.wal_log.specs.declared.records.Record.{Record}
 use Rattle.wal_log.specs.declared.records.LogOp.{LogOp}
-use Rattle.image_model.specs.Recovered.{write_of}
+use Rattle.component_image.specs.Replayed.{write_of}
 use Rattle.store_machine.specs.Damage.{damaged_page}
 use Rattle.store_machine.specs.Laws.Damages.{IsCause, gone-same, gone-noted, gone-stopped, gone-then, no-cause}
 use Rattle.store_machine.specs.Laws.LogCalls.{append-calls, failed_calls, plan-length, StoppedBy, failed-by}

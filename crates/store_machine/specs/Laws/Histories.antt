@@ -17,7 +17,7 @@ use Rattle.table_model.specs.declared.Why.{Why}
 use Rattle.table_model.specs.declared.Why.TheVariants as why
 use Rattle.wal_log.specs.declared.records.LogOp.{LogOp}
 use Rattle.wal_log.specs.declared.records.LogOp.TheVariants.{Put, Del}
-use Rattle.image_model.specs.Recovered.{write_of}
+use Rattle.component_image.specs.Replayed.{write_of}
 use Rattle.store_machine.specs.Outcomes.{Group, logged_by, logged_groups}
 use Rattle.store_machine.specs.Machine.{Machine, does, after_logged, after_event, after_all, group_of}
 use Rattle.store_machine.specs.Needs.{Needs, NeedsWrite, RefusesStep, place_in}

@@ -17,7 +17,7 @@ use Rattle.wal_log.specs.Changes.{append_calls}
 use Rattle.wal_log.specs.declared.log.Log.{Log}
 use Rattle.wal_log.specs.declared.records.Record.{Record}
 use Rattle.wal_log.specs.declared.records.LogOp.{LogOp}
-use Rattle.image_model.specs.Recovered.{write_of}
+use Rattle.component_image.specs.Replayed.{write_of}
 use Rattle.primary_ix.specs.Wanted.{written_row}
 use Rattle.primary_ix.specs.declared.rows.PrimRow.{PrimRow}
 use Rattle.component_image.specs.Recovered.{Recovers}

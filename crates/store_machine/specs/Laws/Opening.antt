@@ -8,10 +8,9 @@ use Rattle.table_model.specs.Table.{Table}
 use Rattle.std.specs.FinMap.{empty}
 use Rattle.wal_log.specs.State.{IsStill}
 use Rattle.wal_log.specs.declared.log.Log.{Log}
-use Rattle.image_model.specs.Opening.{IsOpeningRange}
-use Rattle.image_model.specs.Superblock.{declared}
-use Rattle.image_model.specs.declared.places.TheConstants.{LOG_START}
-use Rattle.component_image.specs.Recovered.{Opens, IsLookedAt, IsContent, Recovers}
+use Rattle.superblock.specs.Superblock.{declared}
+use Rattle.format_numbers.specs.declared.TheConstants.{LOG_START}
+use Rattle.component_image.specs.Recovered.{Opens, IsLookedAt, IsContent, Recovers, IsOpeningRange}
 use Rattle.component_image.specs.Resting.{Rests}
 use Rattle.component_image.specs.Laws.Keeping.{rest-image}
 use Rattle.primary_ix.specs.declared.rows.PrimRow.{PrimRow}

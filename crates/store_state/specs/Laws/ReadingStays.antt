@@ -18,8 +18,8 @@ use Rattle.wal_log.specs.Later.{later}
 use Rattle.wal_log.specs.Rules.{records_of}
 use Rattle.wal_log.specs.Segments.{segments_of}
 use Rattle.wal_log.specs.declared.log.Log.{Log}
-use Rattle.image_model.specs.declared.places.TheConstants.{LOG_START}
-use Rattle.image_model.specs.Recovered.{replayed}
+use Rattle.format_numbers.specs.declared.TheConstants.{LOG_START}
+use Rattle.component_image.specs.Replayed.{replayed}
 use Rattle.comp_dir.specs.Directory.{Numbered, directory_of, open_slots}
 use Rattle.comp_dir.specs.declared.places.TheConstants.{FIRST_DATA_PAGE}
 use Rattle.comp_dir.specs.declared.slots.Slot.{Slot}

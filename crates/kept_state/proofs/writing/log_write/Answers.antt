@@ -1,7 +1,7 @@
 use Rattle.std.proofs.Common.{rules, ◌≡◌, is_some, ap, sym, subst}
 use Rattle.wal_log.specs.declared.log.Log.{Log}
 use Rattle.table_model.specs.Answers.{after_write}
-use Rattle.image_model.specs.Recovered.{write_of}
+use Rattle.component_image.specs.Replayed.{write_of}
 use Rattle.primary_ix.specs.Wanted.{written_row}
 use Rattle.store_state.specs.Lists.{Lists}
 use Rattle.store_state.specs.Steps.{added}

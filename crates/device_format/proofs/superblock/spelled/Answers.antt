@@ -1,7 +1,0 @@
-use Rattle.std.proofs.Common.{refl}
-use Rattle.image_model.specs.Superblock.{superblock_bytes}
-use Rattle.device_format.proofs.superblock.spelled.Goals as goal
-
-pub returns : goal.returns
-unfolding superblock_bytes
-returns c = rw (c.copy_from_slice-2.ensures.after, c.copy_from_slice.ensures.after, c.to_be_bytes.ensures, c.bits.ensures.is) refl

@@ -1,5 +1,0 @@
-pub mod Superblock
-pub mod Directory
-pub mod Opening
-pub mod Recovered
-pub mod Laws

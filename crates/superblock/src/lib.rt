@@ -1,0 +1,12 @@
+//! The superblock: the first sixteen bytes of a device, how they are written and how they are read.
+#![tactic(auto)]
+
+mod bytes;
+mod gate;
+mod places;
+mod reading;
+
+pub use bytes::superblock_bytes;
+pub use gate::{close_superblock_if, is_superblock_open, write_superblock};
+pub use places::{FORMAT, MAGIC, SUPERBLOCK_BYTES};
+pub use reading::read_superblock;
