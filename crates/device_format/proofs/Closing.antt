@@ -1,43 +1,42 @@
 -- Gates that are closed one by one.
-use Rattle.std.proofs.Common.{◌≡◌, inl, inr, ℕ, suc, ◌+◌, ◌-◌, ◌*◌, ◌<◌, ◌≤◌, ◌∷◌, Option, refl, sym, subst, arith}
-use Rattle.dev_model.specs.Story.{Calls, Story}
-use Rattle.dev_model.specs.Doing.{noted, all_noted, HasFailed, HasStoppedIn}
+use Rattle.std.proofs.Common.{◌≡◌, ℕ, zero, suc, ◌+◌, ◌-◌, ◌*◌, ◌<◌, ◌≤◌, ◌∷◌, ◌++◌, Result, Ok, Err, refl, ◌∙◌, ap, subst, arith}
+use Rattle.std.specs.Prelude.{IsErr}
+use Rattle.dev_model.specs.Answers.{MadeCall}
+use Rattle.dev_model.specs.Doing.{Made}
+use Rattle.dev_model.specs.Story.{Calls, DeviceState}
+use Rattle.dev_model.specs.declared.streams.Failed.{Failed}
 use Rattle.device_format.specs.Planning.{close_gate, close_from}
+use Rattle.device_format.proofs.Joining.{made_call, made_first, made_then}
 
--- what is left of some calls says of each end what all of them said
-pub record IsLeft (calls left : Calls) (old now : Option Story) : Type 0 where
-  pub all : all_noted left now ≡ all_noted calls old
-  pub stops : (new : Option Story) → HasStoppedIn left now new → HasStoppedIn calls old new
+-- the first gates and those behind them
+close_split : (gate : ℕ → ℕ) (m n k count total : ℕ) → k ≡ m + n → total ≡ n + count → close_from gate m n ++ close_from gate k count ≡ close_from gate m total
+unfolding close_from
+close_split gate m zero k count total at all =
+    let here : k ≡ m = omega (arith, at) in
+    let rest : count ≡ total = omega (arith, all) in
+    ap (λ (j : ℕ). close_from gate j count) here ∙ ap (close_from gate m) rest
+close_split gate m (suc n) k count zero at all = absurd (omega (arith, all))
+close_split gate m (suc n) k count (suc total) at all = ap (λ (calls : Calls). close_gate (gate m) ∷ calls) (close_split gate (m + 1) n k count total (omega (arith, at)) (omega (arith, all)))
 
-module _ (gate : ℕ → ℕ) (count : ℕ) (old : Option Story) where
-  -- so many gates were closed
-  abbrev pub AreClosedTo : ℕ → Option Story → Type 0
-  AreClosedTo n now = IsLeft (close_from gate 0 count) (close_from gate n (count - n)) old now
+-- so many gates were closed
+abbrev pub HasClosed : (gate : ℕ → ℕ) (n : ℕ) (old now : DeviceState) → Type 0
+HasClosed gate n old now = Made {X = Unit {0}} {E = Failed} (close_from gate 0 n) old now (Ok tt)
 
-  pub close_none : AreClosedTo 0 old
-  close_none =
-      let all : count ≡ count - 0 = omega arith in
-      subst (λ (m : ℕ). IsLeft (close_from gate 0 count) (close_from gate 0 m) old old) all (record { all = refl; stops = λ new stopped. stopped })
+pub close_none : (gate : ℕ → ℕ) (now : DeviceState) → HasClosed gate 0 now now
+unfolding close_from
+close_none gate now = record { did = refl; ticks = omega arith; same_pages = refl; cause = record { later = omega arith; failed = tt } }
 
-  next : (n : ℕ) (now : Option Story) → n < count → AreClosedTo n now → IsLeft (close_from gate 0 count) (close_gate (gate n) ∷ close_from gate (n + 1) (count - (n + 1))) old now
+module _ (gate : ℕ → ℕ) (n : ℕ) (old mid new : DeviceState) (closed : HasClosed gate n old mid) where
+  pub close_more : MadeCall {X = Unit {0}} {E = Failed} (close_gate (gate n)) mid new (Ok tt) → HasClosed gate (n + 1) old new
   unfolding close_from
-  next n now lt closed =
-      let one_more : count - n ≡ suc (count - (n + 1)) = omega arith in
-      subst (λ (m : ℕ). IsLeft (close_from gate 0 count) (close_from gate n m) old now) one_more closed
+  close_more call =
+      subst (λ (calls : Calls). Made {X = Unit {0}} {E = Failed} calls old new (Ok tt)) (close_split gate 0 n n 1 (n + 1) (omega arith) (omega arith)) (made_then closed (made_call call))
 
-  pub close_more : (n : ℕ) (now new : Option Story) → n < count → AreClosedTo n now → new ≡ noted (close_gate (gate n)) now → AreClosedTo (n + 1) new
-  close_more n now new lt closed call =
-      let more = next n now lt closed in
-      subst (AreClosedTo (n + 1)) (sym call) (record { all = more.all; stops = λ end stopped. more.stops end (inr stopped) })
-
-  pub close_stopped : (n : ℕ) (now new : Option Story) → n < count → AreClosedTo n now → HasFailed (close_gate (gate n)) now new → HasStoppedIn (close_from gate 0 count) old new
-  close_stopped n now new lt closed failed = (next n now lt closed).stops new (inl failed)
-
-  pub close_all : (n : ℕ) (now : Option Story) → count ≤ n → AreClosedTo n now → now ≡ all_noted (close_from gate 0 count) old
+  pub close_stopped : {failed : Failed} (count : ℕ) (result : Result (Unit {0}) Failed) → n < count → IsErr result → MadeCall {X = Unit {0}} (close_gate (gate n)) mid new (Err failed) → Made (close_from gate 0 count) old new result
   unfolding close_from
-  close_all n now le closed =
-      let none : count - n ≡ 0 = omega arith in
-      (subst (λ (m : ℕ). IsLeft (close_from gate 0 count) (close_from gate n m) old now) none closed).all
+  close_stopped count result lt is call =
+      subst (λ (calls : Calls). Made calls old new result) (close_split gate 0 n n (suc (count - (n + 1))) count (omega arith) (omega (arith, lt)))
+      (made_then closed (made_first (close_from gate (n + 1) (count - (n + 1))) result is (made_call call)))
 
 -- the place of each gate is before the end
 pub before_end : (step n count : ℕ) → n < count → step * n + step ≤ step * count

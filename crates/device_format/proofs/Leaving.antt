@@ -1,11 +1,12 @@
 -- What a crash leaves at each moment of a format, and what stands after it.
-use Rattle.std.proofs.Common.{◌≡◌, ◌≢◌, ◌⊎◌, inl, inr, ⊎_elim, ℕ, ◌+◌, ◌≤◌, [], ◌∷◌, ◌++◌, Bool, true, false, ◌==◌, Option, Some, None, Result, Ok, Err, refl, sym, ◌∙◌, ap, subst, arith}
+use Rattle.std.proofs.Common.{◌≡◌, ◌≢◌, ◌⊎◌, inl, inr, ⊎_elim, ℕ, ◌≤◌, [], ◌∷◌, ◌++◌, Bool, true, false, ◌==◌, Option, Some, None, Result, Ok, Err, refl, sym, ◌∙◌, ap, subst, arith}
 use Rattle.std.specs.Prelude.{OnOk, IsErr}
 use Rattle.std.proofs.lemmas.Bool.{cases_eq}
 use Rattle.std.proofs.lemmas.Bool.Decides.{nat_tests}
 use Rattle.std.proofs.lemmas.Option.{same_Some}
-use Rattle.dev_model.specs.Story.{Bytes, Calls, Story, Read, Write, Sync, after, with_call, bytes_of, patched, WhereTold, IsSettled, IsImageNow}
-use Rattle.dev_model.specs.Doing.{Did, HasStoppedIn}
+use Rattle.dev_model.specs.Story.{Bytes, Calls, DeviceState, Story, Read, Write, Sync, after, with_call, bytes_of, patched, WhereTold, IsSettled, IsImageNow}
+use Rattle.dev_model.specs.Doing.{Did, Made}
+use Rattle.dev_model.specs.declared.streams.Failed.{Failed}
 use Rattle.dev_model.specs.Moments.{LeavesOnly}
 use Rattle.dev_model.specs.Writes.{AreSpared}
 use Rattle.dev_model.specs.Laws.Frame.{IsSettled-spared, bytes_of-spared}
@@ -13,9 +14,10 @@ use Rattle.dev_model.specs.Laws.Images.{IsReadable-settled}
 use Rattle.dev_model.specs.Laws.Plans.{LeavesOnly-did, Did-untold, all_noted-told, no_story}
 use Rattle.dev_model.specs.Laws.Ranges.{patched-outside}
 use Rattle.dev_model.specs.Laws.Runs.{During, after-append}
-use Rattle.superblock.specs.Calls.{close_superblock_if, write_superblock}
-use Rattle.device_format.specs.Planning.{close_gates, start_log, write_ticks, format_calls, Formats}
+use Rattle.superblock.specs.Calls.{TellsGate, close_superblock_if, write_superblock}
+use Rattle.device_format.specs.Planning.{close_gates, start_log, write_calls, format_calls, Formats}
 use Rattle.device_format.specs.Formatting.{IsEmptyStore, IsFreshStore, IsUnformatted, HasNoStore, LooksAs, IsNoneOrEmpty, IsBeforeOrAfter}
+use Rattle.device_format.proofs.Joining.{made_first}
 use Rattle.device_format.proofs.Ready.{IsReady, IsBehindGate, IsPrepared, behind_gate, behind_back, ready-same, ready-store, ready-looked, write_fields, prepared}
 use Rattle.device_format.proofs.Zeros.{closed-gates, spared-gates, first_there}
 
@@ -198,42 +200,31 @@ module _ (pages indexes : ℕ) (few : indexes ≤ 31) (s : Story) (is_open : Boo
       LeavesOnly-did s (format_calls is_open indexes pages) (IsNoneOrEmpty pages indexes) old new result told did (none_during none is) (λ image now. inr (all_image image now))
 
 -- the clauses that follow from the calls
-pub formatted : (X E : Type 0) (indexes pages clock clock_after : ℕ) (old new : Option Story) (result : Result X E) → indexes ≤ 31 → Formats indexes pages old new clock clock_after result
-    → OnOk result (WhereTold new (IsFreshStore pages indexes))
-formatted X E indexes pages clock clock_after old new (Err e) few is = tt
-formatted X E indexes pages clock clock_after None new (Ok x) few is = λ t now.
-    no_story t (sym (Did-untold {T = X} {E = E} (format_calls is.is_open indexes pages) new (Ok x) is.did) ∙ now)
-formatted X E indexes pages clock clock_after (Some s) new (Ok x) few is = λ t now.
-    subst (IsFreshStore pages indexes) (same_Some _ _ (sym (is.did ∙ all_noted-told s (format_calls is.is_open indexes pages) (Some s) refl) ∙ now)) (all_fresh pages indexes few s is.is_open)
+pub formatted : {X E : Type 0} {indexes : ℕ} {old new : DeviceState} (result : Result X E) → indexes ≤ 31 → Formats indexes old new result → OnOk result (WhereTold new.story (IsFreshStore old.pages indexes))
+formatted (Err e) few is = tt
+formatted {X = X} {E = E} {indexes = indexes} {old = old} {new = new} (Ok x) few is = λ t now. from old.story is.made.did t now
+  where
+    from : (story : Option Story) → Did {X = X} {E = E} (format_calls is.is_open indexes old.pages) story new.story (Ok x) → WhereTold new.story (IsFreshStore old.pages indexes)
+    from None did t now = no_story t (sym (Did-untold {T = X} {E = E} (format_calls is.is_open indexes old.pages) new.story (Ok x) did) ∙ now)
+    from (Some s) did t now =
+        subst (IsFreshStore old.pages indexes) (same_Some _ _ (sym (did ∙ all_noted-told s (format_calls is.is_open indexes old.pages) (Some s) refl) ∙ now)) (all_fresh old.pages indexes few s is.is_open)
 
-pub any_moment : (X E : Type 0) (indexes pages clock clock_after : ℕ) (old new : Option Story) (result : Result X E) → indexes ≤ 31 → Formats indexes pages old new clock clock_after result
-    → WhereTold old (λ s. IsSettled s.past 0 → LeavesOnly s new (IsBeforeOrAfter pages indexes s))
-any_moment X E indexes pages clock clock_after old new result few is s told gate =
-    all_moments pages indexes few s is.is_open old new result told is.did gate (is.told s told (IsReadable-settled s.past 0 gate))
+pub any_moment : {X E : Type 0} {indexes : ℕ} {old new : DeviceState} {result : Result X E} → indexes ≤ 31 → Formats indexes old new result
+    → WhereTold old.story (λ s. IsSettled s.past 0 → LeavesOnly s new.story (IsBeforeOrAfter old.pages indexes s))
+any_moment {indexes = indexes} {old = old} {new = new} {result = result} few is s told gate =
+    all_moments old.pages indexes few s is.is_open old.story new.story result told is.made.did gate (is.told s told (IsReadable-settled s.past 0 gate))
 
-pub over_none : (X E : Type 0) (indexes pages clock clock_after : ℕ) (old new : Option Story) (result : Result X E) → indexes ≤ 31 → Formats indexes pages old new clock clock_after result
-    → WhereTold old (λ s. HasNoStore s → LeavesOnly s new (IsNoneOrEmpty pages indexes))
-over_none X E indexes pages clock clock_after old new result few is s told none =
-    none_moments pages indexes few s is.is_open old new result told is.did none (is.told s told (IsReadable-settled s.past 0 none.settled))
+pub over_none : {X E : Type 0} {indexes : ℕ} {old new : DeviceState} {result : Result X E} → indexes ≤ 31 → Formats indexes old new result
+    → WhereTold old.story (λ s. HasNoStore s → LeavesOnly s new.story (IsNoneOrEmpty old.pages indexes))
+over_none {indexes = indexes} {old = old} {new = new} {result = result} few is s told none =
+    none_moments old.pages indexes few s is.is_open old.story new.story result told is.made.did none (is.told s told (IsReadable-settled s.past 0 none.settled))
 
 -- a read of the gate that failed
-more_ticks : (is_open : Bool) (clock clock_after : ℕ) → clock_after ≤ clock + 1 → clock_after ≤ clock + (1 + write_ticks is_open)
-more_ticks true clock clock_after few = omega arith
-more_ticks false clock clock_after few = omega arith
-
-pub not_read : (X E : Type 0) (indexes pages clock clock_after : ℕ) (old new : Option Story) (result : Result X E) → IsErr result → HasStoppedIn (Read 0 1 ∷ []) old new → (clock ≤ clock_after) × (clock_after ≤ clock + 1)
-    → Formats indexes pages old new clock clock_after result
-not_read X E indexes pages clock clock_after old new (Ok x) failed stopped ticks = cc
-not_read X E indexes pages clock clock_after None new (Err e) failed (inl stopped) ticks = record {
-  is_open = false;
-  told = λ s is. no_story s is;
-  did = inl stopped;
-  ticks = (ticks.0, more_ticks false clock clock_after ticks.1);
-}
-not_read X E indexes pages clock clock_after (Some s) new (Err e) failed (inl stopped) ticks = record {
-  is_open = bytes_of s 0 == 165;
-  told = λ t is readable. ap (λ (u : Story). bytes_of u 0 == 165) (same_Some s t is);
-  did = inl stopped;
-  ticks = (ticks.0, more_ticks (bytes_of s 0 == 165) clock clock_after ticks.1);
-}
-not_read X E indexes pages clock clock_after old new (Err e) failed (inr more) ticks = absurd more
+pub not_read : {X E : Type 0} {indexes : ℕ} {old new : DeviceState} {failed : Failed} (result : Result X E) → IsErr result → Made {X = Bool} (Read 0 1 ∷ []) old new (Err failed) → Formats indexes old new result
+not_read {indexes = indexes} {old = old} result is made =
+    let gate = gate_of old.story in
+    record { is_open = gate.0; told = gate.1; made = made_first (write_calls gate.0 indexes old.pages) result is made }
+  where
+    gate_of : (story : Option Story) → (is_open : Bool) × WhereTold story (TellsGate is_open)
+    gate_of None = (false, λ s is. no_story s is)
+    gate_of (Some s) = (bytes_of s 0 == 165, λ t is readable. ap (λ (u : Story). bytes_of u 0 == 165) (same_Some s t is))

@@ -1,10 +1,10 @@
 -- Worked examples, and laws of the definitions.
-use Rattle.std.specs.Prelude.{◌≡◌, ℕ, ◌+◌, ◌<◌, List, [], ◌∷◌, length, Bool}
+use Rattle.std.specs.Prelude.{◌≡◌, ℕ, ◌<◌, List, [], ◌∷◌, length, Bool, if◌then◌else◌}
 use Rattle.dev_model.specs.Story.{Bytes, Story, part}
 use Rattle.gate.specs.declared.gates.TheConstants.{OPEN}
 use Rattle.comp_dir.specs.Places.{slot_start}
 use Rattle.comp_dir.specs.declared.places.TheConstants.{SLOTS}
-use Rattle.device_format.specs.Planning.{format_calls, write_ticks}
+use Rattle.device_format.specs.Planning.{format_calls}
 use Rattle.device_format.specs.Formatting.{IsEmptyStore}
 
 -- behind the gate of a store of 4,096 pages with the index dhvb alone
@@ -17,7 +17,7 @@ zero_story = record { start = []; past = [] }
 
 -- so many calls are planned
 abbrev pub AreCounted : Type 0
-AreCounted = (is_open : Bool) (indexes pages : ℕ) → length (format_calls is_open indexes pages) ≡ 1 + write_ticks is_open
+AreCounted = (is_open : Bool) (indexes pages : ℕ) → length (format_calls is_open indexes pages) ≡ (if is_open then 528 else 526)
 
 -- an empty store has no open slot
 abbrev pub HaveNoOpenSlot : Type 0

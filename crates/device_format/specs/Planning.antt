@@ -1,7 +1,7 @@
 -- The calls of a device that formatting it makes.
-use Rattle.std.specs.Prelude.{◌+◌, ◌*◌, ℕ, zero, suc, [], ◌∷◌, ◌++◌, Bool, if◌then◌else◌, Option, Result}
-use Rattle.dev_model.specs.Story.{Read, Write, Sync, Call, Calls, Story, WhereTold}
-use Rattle.dev_model.specs.Doing.{Did, Ticks}
+use Rattle.std.specs.Prelude.{◌+◌, ◌*◌, ℕ, zero, suc, [], ◌∷◌, ◌++◌, Bool, Result}
+use Rattle.dev_model.specs.Story.{Read, Write, Sync, Call, Calls, DeviceState, WhereTold}
+use Rattle.dev_model.specs.Doing.{Made}
 use Rattle.wal_log.specs.Places.{segment_start}
 use Rattle.wal_log.specs.State.{start_calls}
 use Rattle.superblock.specs.Calls.{TellsGate, close_superblock_if, write_superblock}
@@ -34,17 +34,12 @@ start_log = start_calls LOG_START 0 0 1
 abbrev pub write_calls : (is_open : Bool) (indexes pages : ℕ) → Calls
 write_calls is_open indexes pages = close_superblock_if is_open ++ (close_gates ++ (start_log ++ write_superblock indexes pages))
 
--- how many calls these are
-abbrev pub write_ticks : Bool → ℕ
-write_ticks is_open = if is_open then 527 else 525
-
 -- all calls of a format: it looks first whether the superblock is open
 abbrev pub format_calls : (is_open : Bool) (indexes pages : ℕ) → Calls
 format_calls is_open indexes pages = Read 0 1 ∷ write_calls is_open indexes pages
 
 -- These calls were made, or the first of them up to one that failed. Whether the gate was found open decides which they are.
-pub record Formats {X E : Type 0} (indexes pages : ℕ) (old new : Option Story) (clock clock_after : ℕ) (result : Result X E) : Type 0 where
+pub record Formats {X E : Type 0} (indexes : ℕ) (old new : DeviceState) (result : Result X E) : Type 0 where
   pub is_open : Bool
-  pub told : WhereTold old (TellsGate is_open)
-  pub did : Did (format_calls is_open indexes pages) old new result
-  pub ticks : Ticks (1 + write_ticks is_open) clock clock_after result
+  pub told : WhereTold old.story (TellsGate is_open)
+  pub made : Made (format_calls is_open indexes old.pages) old new result

@@ -1,10 +1,9 @@
 // The whole of a format, in its order.
-ghost use Rattle.std.specs.Prelude.{◌≡◌, ◌≤◌, OnOk};
-ghost use Rattle.dev_model.specs.Counts.{HasCause};
+ghost use Rattle.std.specs.Prelude.{◌≤◌, OnOk};
 ghost use Rattle.dev_model.specs.Story.{WhereTold, IsSettled};
-ghost use Rattle.dev_model.specs.Doing.{Did, Ticks};
+ghost use Rattle.dev_model.specs.Doing.{Made};
 ghost use Rattle.dev_model.specs.Moments.{LeavesOnly};
-ghost use Rattle.device_format.specs.Planning.{Formats, write_calls, write_ticks};
+ghost use Rattle.device_format.specs.Planning.{Formats, write_calls};
 ghost use Rattle.device_format.specs.Formatting.{IsFreshStore, HasNoStore, IsBeforeOrAfter, IsNoneOrEmpty};
 
 use crate::gates::close_gates;
@@ -23,7 +22,7 @@ pub fn format_dev<D: Device>(device: &mut D, indexes: IndexSet) -> Result<(), Fa
     requires pages { FIRST_DATA_PAGE ≤ (D.seen device.old).pages }
 
     // The calls that were made, in their order.
-    ensures did { Formats indexes (D.seen device.old).pages (D.seen device.old).story (D.seen device.new).story (D.seen device.old).clock (D.seen device.new).clock result }
+    ensures made { Formats indexes (D.seen device.old) (D.seen device.new) result }
 
     // After `Ok` the empty store is there, whatever was before.
     ensures formatted { OnOk result (WhereTold (D.seen device.new).story (IsFreshStore (D.seen device.old).pages indexes)) }
@@ -37,9 +36,6 @@ pub fn format_dev<D: Device>(device: &mut D, indexes: IndexSet) -> Result<(), Fa
     // stands elsewhere doesn't matter, nor whether it is on the disk.
     ensures over_none { WhereTold (D.seen device.old).story (λ s. HasNoStore s → LeavesOnly s (D.seen device.new).story
         (IsNoneOrEmpty (D.seen device.old).pages indexes)) }
-
-    ensures same_pages { (D.seen device.new).pages ≡ (D.seen device.old).pages }
-    ensures cause { HasCause (D.seen device.old).faults (D.seen device.new).faults result }
 {
     let is_open = is_superblock_open(device)?;
     write_store(device, is_open, indexes)
@@ -48,10 +44,7 @@ pub fn format_dev<D: Device>(device: &mut D, indexes: IndexSet) -> Result<(), Fa
 /// Writes the empty store, over a superblock that is open or closed.
 fn write_store<D: Device>(device: &mut D, is_open: bool, indexes: IndexSet) -> Result<(), Failed>
     requires { FIRST_DATA_PAGE ≤ (D.seen device.old).pages }
-    ensures did { Did (write_calls is_open indexes (D.seen device.old).pages) (D.seen device.old).story (D.seen device.new).story result }
-    ensures ticks { Ticks (write_ticks is_open) (D.seen device.old).clock (D.seen device.new).clock result }
-    ensures same_pages { (D.seen device.new).pages ≡ (D.seen device.old).pages }
-    ensures cause { HasCause (D.seen device.old).faults (D.seen device.new).faults result }
+    ensures { Made (write_calls is_open indexes (D.seen device.old).pages) (D.seen device.old) (D.seen device.new) result }
 {
     close_superblock_if(device, is_open)?;
     close_gates(device)?;

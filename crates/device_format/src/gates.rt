@@ -1,7 +1,6 @@
 // The gates that are closed before anything else is written.
-ghost use Rattle.std.specs.Prelude.{◌≡◌, ◌+◌, ◌*◌, ◌≤◌};
-ghost use Rattle.dev_model.specs.Counts.{HasCause};
-ghost use Rattle.dev_model.specs.Doing.{Did, Ticks};
+ghost use Rattle.std.specs.Prelude.{◌+◌, ◌*◌, ◌≤◌};
+ghost use Rattle.dev_model.specs.Doing.{Made};
 ghost use Rattle.device_format.specs.Planning.{close_from, close_gates, gate_at};
 
 use comp_dir::{DIRECTORY_START, SLOT_BYTES, SLOTS};
@@ -13,10 +12,7 @@ use wal_log::SEGMENT_BYTES;
 /// looks at them.
 pub fn close_gates<D: Device>(device: &mut D) -> Result<(), Failed>
     requires { FIRST_DATA_PAGE ≤ (D.seen device.old).pages }
-    ensures did { Did close_gates (D.seen device.old).story (D.seen device.new).story result }
-    ensures ticks { Ticks 517 (D.seen device.old).clock (D.seen device.new).clock result }
-    ensures same_pages { (D.seen device.new).pages ≡ (D.seen device.old).pages }
-    ensures cause { HasCause (D.seen device.old).faults (D.seen device.new).faults result }
+    ensures { Made close_gates (D.seen device.old) (D.seen device.new) result }
 {
     close_each(device, DIRECTORY_START, SLOT_BYTES, SLOTS as u64)?;
     close_each(device, LOG_START, SEGMENT_BYTES, 4)?;
@@ -24,15 +20,11 @@ pub fn close_gates<D: Device>(device: &mut D) -> Result<(), Failed>
 }
 
 // Closes so many gates before the data, of which the first stands at this byte and each next one a step behind.
-#[tactic(auto, using(crate::proofs::Closing::close_none, crate::proofs::Closing::close_all))]
 fn close_each<D: Device>(device: &mut D, start: u64, step: u64, count: u64) -> Result<(), Failed>
     requires apart { 1 ≤ step }
     requires before { start + step * count ≤ FIRST_DATA_PAGE * 4096 }
     requires pages { FIRST_DATA_PAGE ≤ (D.seen device.old).pages }
-    ensures did { Did (close_from (gate_at start step) 0 count) (D.seen device.old).story (D.seen device.new).story result }
-    ensures ticks { Ticks count (D.seen device.old).clock (D.seen device.new).clock result }
-    ensures same_pages { (D.seen device.new).pages ≡ (D.seen device.old).pages }
-    ensures cause { HasCause (D.seen device.old).faults (D.seen device.new).faults result }
+    ensures { Made (close_from (gate_at start step) 0 count) (D.seen device.old) (D.seen device.new) result }
 {
     for gate in 0..count {
         device.write(start + step * gate, &[0])?;

@@ -1,9 +1,8 @@
 // What the superblock says.
 ghost use Rattle.std.specs.Prelude.{◌≡◌, ◌≤◌, ◌∷◌, [], slice_index, drop, IfOk};
 ghost use Rattle.std.specs.Bool.{OnTrue, OnFalse};
-ghost use Rattle.dev_model.specs.Counts.{HasCause};
 ghost use Rattle.dev_model.specs.Story.{WhereTold, Read, bytes_of, IsCalmAt};
-ghost use Rattle.dev_model.specs.Doing.{Did, Ticks};
+ghost use Rattle.dev_model.specs.Doing.{Made};
 ghost use Rattle.superblock.specs.Superblock.{superblock_bytes, IsLookedInSuperblock};
 ghost use Rattle.superblock.specs.Saying.{Says, SaysOf};
 
@@ -34,12 +33,9 @@ fn indexes_of(bytes: &[u8; 16], pages: u32) -> Option<IndexSet>
 /// Reads the superblock: the declared indexes where the device is formatted, and `None` where it isn't.
 pub fn read_superblock<D: Device>(device: &mut D) -> Result<Option<IndexSet>, Failed>
     requires { FIRST_DATA_PAGE ≤ (D.seen device.old).pages }
-    ensures did { Did (Read 0 SUPERBLOCK_BYTES ∷ []) (D.seen device.old).story (D.seen device.new).story result }
+    ensures made { Made (Read 0 SUPERBLOCK_BYTES ∷ []) (D.seen device.old) (D.seen device.new) result }
     ensures says { IfOk result (λ found. WhereTold (D.seen device.old).story (λ s. IsCalmAt (IsLookedInSuperblock (bytes_of s)) s →
         Says (D.seen device.old).pages (bytes_of s) found)) }
-    ensures ticks { Ticks 1 (D.seen device.old).clock (D.seen device.new).clock result }
-    ensures same_pages { (D.seen device.new).pages ≡ (D.seen device.old).pages }
-    ensures cause { HasCause (D.seen device.old).faults (D.seen device.new).faults result }
 {
     let mut bytes = [0; 16];
     device.read(0, &mut bytes)?;

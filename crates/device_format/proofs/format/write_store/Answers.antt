@@ -1,35 +1,27 @@
-use Rattle.std.proofs.Common.{ℕ, ◌++◌, ◌∙◌, subst, rules}
-use Rattle.dev_model.specs.Doing.{HasStoppedIn, Did}
-use Rattle.superblock.specs.Calls.{close_superblock_if, write_superblock}
-use Rattle.device_format.specs.Planning.{close_gates, start_log, write_calls}
-use Rattle.device_format.proofs.Joining.{stopped_first, stopped_behind, did_both}
+use Rattle.std.proofs.Common.{ℕ, ◌++◌, Ok, Err, ◌∙◌, subst}
+use Rattle.dev_model.specs.Doing.{Made}
+use Rattle.dev_model.specs.declared.streams.Failed.{Failed}
+use Rattle.superblock.specs.Calls.{write_superblock}
+use Rattle.device_format.specs.Planning.{start_log}
+use Rattle.device_format.proofs.Joining.{made_first, made_then}
 use Rattle.device_format.proofs.format.write_store.Goals as goal
 
-pub returns-in_err-close_superblock_if-clause-did : goal.returns-in_err-close_superblock_if-clause-did
-returns-in_err-close_superblock_if-clause-did g c =
-    let stopped : HasStoppedIn (write_calls c.args.is_open c.args.indexes (g.D.Device.seen c.args.device.now).pages) (g.D.Device.seen c.args.device.now).story (g.D.Device.seen c.close_superblock_if.new.device).story =
-    stopped_first (close_superblock_if c.args.is_open) (close_gates ++ (start_log ++ write_superblock c.args.indexes (g.D.Device.seen c.args.device.now).pages)) (g.D.Device.seen c.args.device.now).story (g.D.Device.seen c.close_superblock_if.new.device).story c.in_err-close_superblock_if.ensures.did in
-    search rules
+pub returns-in_err-close_gates : goal.returns-in_err-close_gates
+returns-in_err-close_gates g c =
+    made_then c.in_ok-close_superblock_if.ensures
+    (made_first (start_log ++ write_superblock c.args.indexes (g.D.Device.seen c.args.device.now).pages) c.from_residual-in_err-close_gates.result c.from_residual-in_err-close_gates.ensures.0 c.in_err-close_gates.ensures)
 
-pub returns-in_err-close_gates-clause-did : goal.returns-in_err-close_gates-clause-did
-returns-in_err-close_gates-clause-did g c =
-    let stopped : HasStoppedIn (write_calls c.args.is_open c.args.indexes (g.D.Device.seen c.args.device.now).pages) (g.D.Device.seen c.args.device.now).story (g.D.Device.seen c.close_gates.new.device).story =
-    stopped_behind (close_superblock_if c.args.is_open) (close_gates ++ (start_log ++ write_superblock c.args.indexes (g.D.Device.seen c.args.device.now).pages)) (g.D.Device.seen c.args.device.now).story (g.D.Device.seen c.close_superblock_if.new.device).story (g.D.Device.seen c.close_gates.new.device).story c.in_ok-close_superblock_if.ensures.did
-    (stopped_first close_gates (start_log ++ write_superblock c.args.indexes (g.D.Device.seen c.args.device.now).pages) (g.D.Device.seen c.close_superblock_if.new.device).story (g.D.Device.seen c.close_gates.new.device).story c.in_err-close_gates.ensures.did) in
-    search rules
+pub returns-in_err-start_segment : goal.returns-in_err-start_segment
+returns-in_err-start_segment g c =
+    let stopped : Made {X = Unit {0}} {E = Failed} start_log (g.D.Device.seen c.close_gates.new.device) (g.D.Device.seen c.start_segment.new.device) (Err c.in_err-start_segment.field-0.0) =
+    record { did = c.in_err-start_segment.ensures.did; ticks = c.in_err-start_segment.ensures.ticks; same_pages = c.in_err-start_segment.ensures.same_pages; cause = c.in_err-start_segment.ensures.cause } in
+    made_then c.in_ok-close_superblock_if.ensures (made_then c.in_ok-close_gates.ensures
+    (made_first (write_superblock c.args.indexes (g.D.Device.seen c.args.device.now).pages) c.from_residual-in_err-start_segment.result c.from_residual-in_err-start_segment.ensures.0 stopped))
 
-pub returns-in_err-start_segment-clause-did : goal.returns-in_err-start_segment-clause-did
-returns-in_err-start_segment-clause-did g c =
-    let stopped : HasStoppedIn (write_calls c.args.is_open c.args.indexes (g.D.Device.seen c.args.device.now).pages) (g.D.Device.seen c.args.device.now).story (g.D.Device.seen c.start_segment.new.device).story =
-    stopped_behind (close_superblock_if c.args.is_open) (close_gates ++ (start_log ++ write_superblock c.args.indexes (g.D.Device.seen c.args.device.now).pages)) (g.D.Device.seen c.args.device.now).story (g.D.Device.seen c.close_superblock_if.new.device).story (g.D.Device.seen c.start_segment.new.device).story c.in_ok-close_superblock_if.ensures.did
-    (stopped_behind close_gates (start_log ++ write_superblock c.args.indexes (g.D.Device.seen c.args.device.now).pages) (g.D.Device.seen c.close_superblock_if.new.device).story (g.D.Device.seen c.close_gates.new.device).story (g.D.Device.seen c.start_segment.new.device).story c.in_ok-close_gates.ensures.did
-    (stopped_first start_log (write_superblock c.args.indexes (g.D.Device.seen c.args.device.now).pages) (g.D.Device.seen c.close_gates.new.device).story (g.D.Device.seen c.start_segment.new.device).story c.in_err-start_segment.ensures.did)) in
-    search rules
-
-pub returns-clause-did : goal.returns-clause-did
-returns-clause-did g c =
-    did_both (close_superblock_if c.args.is_open) (close_gates ++ (start_log ++ write_superblock c.args.indexes (g.D.Device.seen c.args.device.now).pages)) (g.D.Device.seen c.args.device.now).story (g.D.Device.seen c.close_superblock_if.new.device).story (g.D.Device.seen c.write_superblock.new.device).story c.write_superblock.result c.in_ok-close_superblock_if.ensures.did
-    (did_both close_gates (start_log ++ write_superblock c.args.indexes (g.D.Device.seen c.args.device.now).pages) (g.D.Device.seen c.close_superblock_if.new.device).story (g.D.Device.seen c.close_gates.new.device).story (g.D.Device.seen c.write_superblock.new.device).story c.write_superblock.result c.in_ok-close_gates.ensures.did
-    (did_both start_log (write_superblock c.args.indexes (g.D.Device.seen c.args.device.now).pages) (g.D.Device.seen c.close_gates.new.device).story (g.D.Device.seen c.start_segment.new.device).story (g.D.Device.seen c.write_superblock.new.device).story c.write_superblock.result c.in_ok-start_segment.ensures.did
-    (subst (λ (n : ℕ). Did (write_superblock c.args.indexes n) (g.D.Device.seen c.start_segment.new.device).story (g.D.Device.seen c.write_superblock.new.device).story c.write_superblock.result)
-    (c.in_ok-start_segment.ensures.same_pages ∙ (c.in_ok-close_gates.ensures.same_pages ∙ c.in_ok-close_superblock_if.ensures.same_pages)) c.write_superblock.ensures.did)))
+pub returns : goal.returns
+returns g c =
+    let started : Made {X = Unit {0}} {E = Failed} start_log (g.D.Device.seen c.close_gates.new.device) (g.D.Device.seen c.start_segment.new.device) (Ok tt) =
+    record { did = c.in_ok-start_segment.ensures.did; ticks = c.in_ok-start_segment.ensures.ticks; same_pages = c.in_ok-start_segment.ensures.same_pages; cause = c.in_ok-start_segment.ensures.cause } in
+    made_then c.in_ok-close_superblock_if.ensures (made_then c.in_ok-close_gates.ensures (made_then started
+    (subst (λ (n : ℕ). Made (write_superblock c.args.indexes n) (g.D.Device.seen c.start_segment.new.device) (g.D.Device.seen c.write_superblock.new.device) c.write_superblock.result)
+    (started.same_pages ∙ (c.in_ok-close_gates.ensures.same_pages ∙ c.in_ok-close_superblock_if.ensures.same_pages)) c.write_superblock.ensures)))

@@ -7,4 +7,4 @@ pub returns-clause-says : goal.returns-clause-says
 returns-clause-says g c s is calm =
     let sixteen : length c.read.new.buf ≡ 16 = omega arith in
     says-read s c.read.new.buf sixteen (c.in_ok-read.ensures.bytes s is) calm (g.D.Device.seen c.args.device.now).pages c.indexes_of.result
-    (subst (λ (n : ℕ). SaysOf n c.read.new.buf c.indexes_of.result) (c.pages.ensures ∙ c.in_ok-read.ensures.same_pages) c.indexes_of.ensures)
+    (subst (λ (n : ℕ). SaysOf n c.read.new.buf c.indexes_of.result) (c.pages.ensures ∙ c.in_ok-read.ensures.made.same_pages) c.indexes_of.ensures)
