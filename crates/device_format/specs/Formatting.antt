@@ -4,7 +4,7 @@ use Rattle.std.specs.FinMap.{empty}
 use Rattle.dev_model.specs.Story.{Bytes, Story, bytes_of, IsCalmAt, IsSettled}
 use Rattle.wal_log.specs.Segments.{segments_of}
 use Rattle.wal_log.specs.Rules.{records_of}
-use Rattle.wal_log.specs.declared.places.TheConstants.{OPEN}
+use Rattle.gate.specs.declared.gates.TheConstants.{OPEN}
 use Rattle.superblock.specs.Superblock.{declared}
 use Rattle.comp_dir.specs.Directory.{directory_of, open_slots}
 use Rattle.format_numbers.specs.declared.TheConstants.{LOG_START}

@@ -2,9 +2,6 @@
 //! numbers that one part alone needs are constants of its own crate.
 #![tactic(auto)]
 
-/// What an open gate holds. Any other byte closes it.
-pub const OPEN: u8 = 165;
-
 /// The byte where the log begins.
 pub const LOG_START: u64 = 36_864;
 

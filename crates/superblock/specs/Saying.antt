@@ -1,7 +1,7 @@
 -- What a read of the superblock answers.
 use Rattle.std.specs.Prelude.{◌≡◌, ℕ, ◌≤◌, List, Option, Some, None, drop, slice_index}
 use Rattle.dev_model.specs.Story.{Bytes}
-use Rattle.format_numbers.specs.declared.TheConstants.{OPEN}
+use Rattle.gate.specs.declared.gates.TheConstants.{OPEN}
 use Rattle.geo_base.specs.declared.indexes.TheConstants.{ALL_INDEXES}
 use Rattle.superblock.specs.Superblock.{IsFormatted, declared, superblock_bytes}
 

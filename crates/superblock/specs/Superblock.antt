@@ -2,7 +2,7 @@
 use Rattle.std.specs.Prelude.{◌≡◌, ◌⊎◌, ℕ, ◌<◌, ◌≤◌, List, ◌∷◌, ◌++◌, ◌-◌}
 use Rattle.std.specs.Int.{to_be_bytes, w32}
 use Rattle.dev_model.specs.Story.{Bytes, part}
-use Rattle.format_numbers.specs.declared.TheConstants.{OPEN}
+use Rattle.gate.specs.declared.gates.TheConstants.{OPEN}
 use Rattle.geo_base.specs.declared.indexes.TheConstants.{ALL_INDEXES}
 use Rattle.superblock.specs.declared.places.TheConstants.{FORMAT, MAGIC, SUPERBLOCK_BYTES}
 

@@ -2,11 +2,11 @@
 #![tactic(auto)]
 
 mod bytes;
-mod gate;
 mod places;
 mod reading;
+mod writing;
 
 pub use bytes::superblock_bytes;
-pub use gate::{close_superblock_if, is_superblock_open, write_superblock};
 pub use places::{FORMAT, MAGIC, SUPERBLOCK_BYTES};
 pub use reading::read_superblock;
+pub use writing::{close_superblock_if, is_superblock_open, write_superblock};

@@ -9,7 +9,8 @@ ghost use Rattle.superblock.specs.Saying.{Says, SaysOf};
 use crate::bytes::superblock_bytes;
 use crate::places::SUPERBLOCK_BYTES;
 use dev_model::{Device, Failed};
-use format_numbers::{FIRST_DATA_PAGE, OPEN};
+use format_numbers::FIRST_DATA_PAGE;
+use gate::OPEN;
 use geo_base::IndexSet;
 
 // The gate is open, and these are the bytes behind it.

@@ -5,8 +5,9 @@ ghost use Rattle.dev_model.specs.Doing.{Made};
 ghost use Rattle.superblock.specs.Calls.{TellsGate, close_superblock_if, write_superblock};
 
 use crate::bytes::superblock_bytes;
-use dev_model::{Device, Failed, write_synced};
-use format_numbers::{FIRST_DATA_PAGE, OPEN};
+use dev_model::{Device, Failed};
+use format_numbers::FIRST_DATA_PAGE;
+use gate::{OPEN, close_gate, write_gated};
 use geo_base::IndexSet;
 
 /// Reads whether the superblock's gate is open.
@@ -27,7 +28,7 @@ pub fn close_superblock_if<D: Device>(device: &mut D, is_open: bool) -> Result<(
     ensures { Made (close_superblock_if is_open) (D.seen device.old) (D.seen device.new) result }
 {
     if is_open {
-        return write_synced(device, 0, &[0]);
+        return close_gate(device, 0);
     }
     Ok(())
 }
@@ -38,6 +39,5 @@ pub fn write_superblock<D: Device>(device: &mut D, indexes: IndexSet) -> Result<
     ensures { Made (write_superblock indexes (D.seen device.old).pages) (D.seen device.old) (D.seen device.new) result }
 {
     let pages = device.pages();
-    write_synced(device, 1, &superblock_bytes(indexes, pages))?;
-    write_synced(device, 0, &[OPEN])
+    write_gated(device, 0, &superblock_bytes(indexes, pages))
 }
