@@ -8,8 +8,8 @@ use space_map::Extent;
 use std::test::Fail;
 
 fn first_byte<P: Pages>(pages: &mut P, page: u32) -> Result<u8, Failed>
-    requires { IsTrue (P.lent pages.old page) }
-    ensures same_lent { P.lent pages.new ≡ P.lent pages.old }
+    requires { IsTrue ((P.lending pages.old).lent page) }
+    ensures same_lent { (P.lending pages.new).lent ≡ (P.lending pages.old).lent }
     ensures asked { P.asked pages.old pages.new ((page, is_ok result) ∷ []) }
 {
     let mut buf = [9; 4096];

@@ -1,5 +1,5 @@
 -- What a reader finds in one page.
-use Rattle.std.proofs.Common.{◌≡◌, ◌≢◌, ℕ, ◌+◌, ◌<◌, true, false, List, [], take, drop, Option, Some, None, arith, refl, sym, ◌∙◌, ap}
+use Rattle.std.proofs.Common.{◌≡◌, ◌≢◌, ℕ, ◌+◌, ◌<◌, true, false, List, [], take, drop, Option, Some, None, arith, refl, sym, ◌∙◌}
 use Rattle.std.specs.Prelude.{slice_index_or, IfSome, IfNone}
 use Rattle.std.specs.Ordering.{eq_by_cmp}
 use Rattle.std.specs.Int.{from_be_bytes, w32}
@@ -31,7 +31,6 @@ none_damaged None P Q p f = f p
 none_damaged (Some x) P Q p f = tt
 
 -- a child that is a page of the level below has its place there
-pub some_place : (result : Option ℕ) (start size child place : ℕ) → IfSome result (λ at. start + at ≡ child)
-    → IfNone result ((at : ℕ) → at < size → start + at ≢ child) → child ≡ start + place → place < size → result ≡ Some place
-some_place None start size child place found none e inside = absurd (none place inside (sym e))
-some_place (Some at) start size child place found none e inside = ap Some (omega arith)
+pub some_place : (result : Option ℕ) (start child place : ℕ) → IfSome result (λ at. start + at ≡ child) → child ≡ start + place → IfSome result (λ at. at ≡ place)
+some_place None start child place found e = tt
+some_place (Some at) start child place found e = omega arith

@@ -9,6 +9,7 @@ pub mod Trail
 pub mod Along
 pub mod Places
 pub mod Shown
+pub mod Sound
 pub mod Ranks
 pub mod Narrowed
 pub mod Gathered

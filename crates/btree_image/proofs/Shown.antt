@@ -5,7 +5,7 @@ use Rattle.std.proofs.lemmas.Grind.{div_ceil_times}
 use Rattle.std.proofs.lemmas.List.{length-map}
 use Rattle.std.specs.Int.{div_ceil}
 use Rattle.page_codec.specs.Page.{most_rows, row_count, IsPage, ShowsRows}
-use Rattle.tree_shape.specs.Shape.{level_size, IsPlace}
+use Rattle.tree_shape.specs.Shape.{level_size}
 use Rattle.btree_image.specs.Rows.{Layout}
 use Rattle.btree_image.specs.Image.{shape_of, level_rows, level_kind, IsList, child_row}
 use Rattle.tree_shape.specs.Shape.{numbers}
@@ -44,10 +44,3 @@ module _ {T K : Type 0} (l : Layout T K) (b : 1 ≤ most_rows l.inner) (rows : �
 pub none_of_tree : {T K : Type 0} (l : Layout T K) (rows level : ℕ) (bytes : List ℕ) → (IsPage (level_kind l level) level bytes → (0 < level) × (row_count bytes ≡ 0)) → IsTreePage l rows level bytes → ⊥
 none_of_tree l rows zero bytes bad well = let wrong = bad well.page in omega (arith, wrong.0)
 none_of_tree l rows (suc below) bytes bad well = let wrong = bad well.page in let some = well.some in omega (arith, wrong.1, some)
-
--- nor is it shown
-pub none_shown : {T K : Type 0} (l : Layout T K) → 1 ≤ most_rows l.inner → (rows : ℕ) (list : List T) → IsList l rows list → (level at : ℕ) → IsPlace (shape_of l rows) level at
-    → (bytes : List ℕ) → ShowsRows (level_kind l level) level (level_rows l list level at) bytes
-    → (IsPage (level_kind l level) level bytes → (0 < level) × (row_count bytes ≡ 0)) → ⊥
-none_shown l b rows list is zero at place bytes shows bad = let wrong = bad shows.page in omega (arith, wrong.0)
-none_shown l b rows list is (suc level) at place bytes shows bad = inner_some l b rows list is level at bytes shows place.inside (bad shows.page).1

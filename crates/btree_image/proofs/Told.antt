@@ -1,6 +1,6 @@
 -- What a page of a shown tree tells a reader.
 use Rattle.std.proofs.Common.{◌≡◌, ℕ, suc, ◌+◌, ◌-◌, ◌*◌, ◌/◌, ◌^◌, ◌<◌, ◌≤◌, min, true, Option, Some, None, List, [], take, drop, map, get_or, length, All, inl, inr, arith, refl, sym, ◌∙◌, ap, subst, get_or-take, get_or-drop}
-use Rattle.std.specs.Prelude.{slice_index_or, not, Result, Ok, Err, OnOk}
+use Rattle.std.specs.Prelude.{slice_index_or, not}
 use Rattle.std.specs.Ordering.{is_gt, eq_by_cmp}
 use Rattle.std.specs.declared.cmp.Ordering.TheVariants.{Greater}
 use Rattle.std.specs.Int.{from_be_bytes, w32}
@@ -20,7 +20,6 @@ use Rattle.btree_image.specs.Shown.{IsShown}
 use Rattle.btree_image.specs.Descent.{rank, place_of_key}
 use Rattle.btree_image.specs.Damage.{AllReadable, IsTreePage, IsDamaged}
 use Rattle.btree_image.specs.Tested.{IsTested}
-use Rattle.dev_model.specs.declared.page_faults.PageFault.TheVariants.{Damaged}
 use Rattle.btree_image.specs.Steps.{IsLastUpTo, row_at}
 use Rattle.page_codec.specs.Laws.Writing.{length-rows_on, stands, Stands}
 use Rattle.tree_shape.specs.Laws.Numbers.{length-numbers}
@@ -70,10 +69,6 @@ module _ {T K : Type 0} (l : Layout T K) (o : IsKeyOrder l.order) (a : 1 ≤ mos
         ∙ (child_number-is l list is.stored level t (row_at_place l o list is.ascends is.stored key a b level (subst (λ n. 0 < n) (sym is.count) some))
         (subst (λ r. level_start (shape_of l r) level + t < 2 ^ 32) (sym is.count) fits)
         ∙ ap (λ r. level_start (shape_of l r) level + t) is.count)
-
-    -- and it has at least one row
-    pub some_rows : 0 < row_count bytes
-    some_rows = let all = length-rows_on bytes in let within = in_page.inside in omega arith
 
   module _ (at : ℕ) (e : at ≡ place_of_key l list key 0) (bytes : List ℕ) (shows : ShowsRows l.leaf 0 (level_rows l list 0 at) bytes) where
     abbrev w : ℕ
@@ -156,7 +151,7 @@ module _ {T K : Type 0} (l : Layout T K) (o : IsKeyOrder l.order) (a : 1 ≤ mos
     no_rows none = (omega (arith, leaf_count), sym (row_with_key-none l key list (λ i d h. absurd (omega arith))))
 
 -- a page of a tree that is shown, by the number of its rows
-shown_at : {T K : Type 0} (l : Layout T K) (list : List T) (first rows : ℕ) (bytes : ℕ → List ℕ) → ShowsTree l list first bytes → length list ≡ rows
+pub shown_at : {T K : Type 0} (l : Layout T K) (list : List T) (first rows : ℕ) (bytes : ℕ → List ℕ) → ShowsTree l list first bytes → length list ≡ rows
     → (level at : ℕ) → IsPlace (shape_of l rows) level at → ShowsRows (level_kind l level) level (level_rows l list level at) (bytes (page_number l first rows level at))
 shown_at l list first rows bytes shows e level at place =
     subst (λ r. ShowsRows (level_kind l level) level (level_rows l list level at) (bytes (page_number l first r level at))) e
@@ -184,18 +179,16 @@ readable l list stored at rows e i h none =
     cc
 
 -- what was read for a place isn't a page for it
-pub damaged_at : {T K : Type 0} (l : Layout T K) (first rows : ℕ) (contents : Option (ℕ → List ℕ)) (bytes : ℕ → List ℕ) (buf : List ℕ) (level at page damaged : ℕ)
+pub damaged_at : {T K : Type 0} (l : Layout T K) (first rows : ℕ) (contents : Option (ℕ → List ℕ)) (bytes : ℕ → List ℕ) (buf : List ℕ) (level at page : ℕ)
     → contents ≡ Some bytes → WhereTold contents (λ bytes. buf ≡ bytes (page_number l first rows level at)) → IsPlace (shape_of l rows) level at
-    → page ≡ page_number l first rows level at → Damaged page ≡ Damaged damaged → (IsTreePage l rows level buf → ⊥) → IsDamaged l first rows bytes damaged
-damaged_at l first rows contents bytes buf level at page damaged told read place number e bad =
-    let same : page ≡ damaged = cc in
-    record {
-      level = level;
-      at = at;
-      place = place;
-      number = sym same ∙ number;
-      bad = λ well. bad (subst (IsTreePage l rows level) (sym (read bytes told ∙ ap bytes (sym number ∙ same))) well);
-    }
+    → page ≡ page_number l first rows level at → (IsTreePage l rows level buf → ⊥) → IsDamaged l first rows bytes page
+damaged_at l first rows contents bytes buf level at page told read place number bad = record {
+  level = level;
+  at = at;
+  place = place;
+  number = number;
+  bad = λ well. bad (subst (IsTreePage l rows level) (sym (read bytes told ∙ ap bytes (sym number))) well);
+}
 
 -- a page that was read at its place and has its header was tested
 pub tested_at : {T K : Type 0} (l : Layout T K) (first rows : ℕ) (contents : ℕ → List ℕ) (bytes : List ℕ) (level at : ℕ)
@@ -209,9 +202,3 @@ tested_at l first rows contents bytes level at place same header some = record {
   header = subst (IsPage (level_kind l level) level) same header;
   some = subst (λ b. 0 < level → 0 < row_count b) same some;
 }
-
--- a fact of the last page that was read, where the answer is no refusal, joined to those of the pages before it
-pub tested_last : {A E : Type 0} (result : Result A E) {C : Type 0} (now before : Option C) {P : C → Type 0} (Q : C → Type 0)
-    → ((contents : C) → P contents → before ≡ Some contents → Q contents) → now ≡ before → OnOk result (WhereTold now P) → OnOk result (WhereTold before Q)
-tested_last (Ok value) now before Q join same last = λ contents told. join contents (last contents (same ∙ told)) told
-tested_last (Err fault) now before Q join same last = tt

@@ -5,6 +5,7 @@ pub mod Image
 pub mod Kinds
 pub mod Lent
 pub mod Pages
+pub mod Reading
 pub mod Rows
 pub mod Shown
 pub mod Steps

@@ -1,78 +1,28 @@
 -- No public contract needs this file: how a scan goes over a level, range by range.
-use Rattle.std.specs.Prelude.{◌≡◌, ℕ, zero, suc, ◌-◌, ◌<◌, ◌≤◌, max, nat_lt, Bool, List, [], ◌∷◌, ◌++◌, take, drop, length, get_or, Option, Some, None, Result, Ok, Err, All, IsTrue, if◌then◌else◌}
+use Rattle.std.specs.Prelude.{◌≡◌, ℕ, zero, suc, ◌-◌, ◌<◌, ◌≤◌, max, nat_lt, Bool, List, [], ◌∷◌, ◌++◌, take, drop, length, get_or, Option, if◌then◌else◌}
 use Rattle.std.specs.List.{prefix_len}
 use Rattle.std.specs.Ordering.{is_lt}
 use Rattle.std.specs.Int.{div_ceil}
-use Rattle.dev_model.specs.Counts.{Rose}
 use Rattle.dev_model.specs.Story.{WhereTold}
 use Rattle.page_codec.specs.Page.{IsPage, row_count}
 use Rattle.dev_model.specs.declared.page_faults.PageFault.{PageFault}
-use Rattle.dev_model.specs.declared.page_faults.PageFault.TheVariants.{Failed, Damaged, OutOfMemory}
 use Rattle.btree_image.specs.declared.hand.InHand.{InHand}
 use Rattle.btree_image.specs.declared.runs.Run.{Run}
 use Rattle.tree_shape.specs.Shape.{span, level_size, numbers}
 use Rattle.btree_image.specs.Rows.{Layout}
 use Rattle.btree_image.specs.Image.{shape_of, level_kind}
 use Rattle.btree_image.specs.Pages.{page_number}
-use Rattle.btree_image.specs.Shown.{IsShown}
 use Rattle.btree_image.specs.Descent.{rank, place_of_key}
-use Rattle.btree_image.specs.Damage.{IsDamaged}
-use Rattle.btree_image.specs.Tested.{IsTested}
-use Rattle.dev_model.specs.Asked.{given_but_last, EndsWith}
-use Rattle.dev_model.specs.Given.{given}
+use Rattle.dev_model.specs.Asked.{GoesAlong}
+use Rattle.dev_model.specs.Lending.{Lending}
+use Rattle.btree_image.specs.Reading.{ReadsTree}
 
--- the fault of an answer
-abbrev pub fault_of : {X : Type 0} → Result X PageFault → Option PageFault
-fault_of (Ok x) = None
-fault_of (Err fault) = Some fault
-
--- what was asked for, by the pages in order and the fault
-abbrev pub reads_by : Option PageFault → List ℕ → List (ℕ × Bool)
-reads_by None pages = given pages
-reads_by (Some Failed) pages = given_but_last pages
-reads_by (Some (Damaged page)) pages = given pages
-reads_by (Some OutOfMemory) pages = given pages
-
--- a fault was caused by the page that was asked for last: one of these, or else the one in hand before
-abbrev pub StopsOn : Option PageFault → (hand pages : List ℕ) → Type 0
-StopsOn None hand pages = Unit {0}
-StopsOn (Some Failed) hand pages = (page : ℕ) × EndsWith pages page
-StopsOn (Some (Damaged page)) hand pages = EndsWith (hand ++ pages) page
-StopsOn (Some OutOfMemory) hand pages = Unit {0}
-
--- all the pages of a way, or with a fault the first few of them
-abbrev pub GoesAlong : Option PageFault → (pages way : List ℕ) → Type 0
-GoesAlong None pages way = pages ≡ way
-GoesAlong (Some fault) pages way = (left : List ℕ) × (pages ++ left ≡ way)
-
--- the page that is damaged, by a fault
-abbrev pub OnDamaged : Option PageFault → (ℕ → Type 0) → Type 0
-OnDamaged (Some (Damaged page)) P = P page
-OnDamaged fault P = Unit {0}
-
-abbrev pub OnFailed : Option PageFault → Type 0 → Type 0
-OnFailed (Some Failed) P = P
-OnFailed fault P = Unit {0}
-
-abbrev pub OnGiven : Option PageFault → Type 0 → Type 0
-OnGiven None P = P
-OnGiven (Some fault) P = Unit {0}
-
--- How a reader of a tree went on along a way, from one state of the pages to a later one.
-pub record GoesOn {T K S : Type 0} (l : Layout T K) (at rows : ℕ) (lent : S → ℕ → Bool) (contents : S → Option (ℕ → List ℕ)) (count : S → ℕ)
-    (asked : S → S → List (ℕ × Bool) → Type 0) (first second : S) (fault : Option PageFault) (hand way : List ℕ) : Type 0 where
-  pub same_lent : lent second ≡ lent first
-  pub same_contents : contents second ≡ contents first
-  pub later : count first ≤ count second
-  pub failed : OnFailed fault (Rose (count first) (count second))
-  pub damaged : OnDamaged fault (λ page. WhereTold (contents first) (λ bytes. IsDamaged l at rows bytes page))
-  pub sound : OnDamaged fault (λ page. (list : List T) → IsShown l (contents first) at rows list → ⊥)
+-- How a reader of a tree went on along a way, with a page in hand before.
+pub record GoesOn {T K S : Type 0} (l : Layout T K) (at rows : ℕ) (lending : S → Lending) (asked : S → S → List (ℕ × Bool) → Type 0) (first second : S)
+    (fault : Option PageFault) (hand way : List ℕ) : Type 0 where
   pub pages : List ℕ
   pub along : GoesAlong fault pages way
-  pub asked_for : asked first second (reads_by fault pages)
-  pub are_lent : All (λ page. IsTrue (lent first page)) pages
-  pub stops : StopsOn fault hand pages
-  pub tested : OnGiven fault (WhereTold (contents first) (λ bytes. All (λ page. IsTested l at rows bytes page) pages))
+  pub reads : ReadsTree l at rows lending asked first second fault hand pages
 
 -- the page in hand was read at a place of a level, and is a page of that level
 pub record IsInHand {T K : Type 0} (l : Layout T K) (first rows : ℕ) (contents : Option (ℕ → List ℕ)) (level at : ℕ) (hand : InHand) : Type 0 where

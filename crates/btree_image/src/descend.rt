@@ -1,10 +1,10 @@
 //! A descent for one key, with one page in hand.
 
-ghost use Rattle.std.specs.Prelude.{◌≡◌, ◌≢◌, ℕ, suc, [], ◌∷◌, ◌+◌, ◌-◌, ◌*◌, ◌^◌, ◌<◌, ◌≤◌, Some, List, All, length, is_ok, OnOk, OnErr, IfOk, IfErr, IfSome, IfNone, MatchResult};
-ghost use Rattle.dev_model.specs.Counts.{Rose, HasCause};
+ghost use Rattle.std.specs.Prelude.{◌≡◌, ◌≢◌, ℕ, suc, [], ◌∷◌, ◌+◌, ◌-◌, ◌*◌, ◌^◌, ◌<◌, ◌≤◌, Some, List, is_ok, OnOk, IfOk, IfErr, IfSome, IfNone, MatchResult};
+ghost use Rattle.dev_model.specs.Lending.{StaysLent};
 ghost use Rattle.dev_model.specs.Story.{WhereTold};
 ghost use Rattle.page_codec.specs.Page.{IsPage, ShowsRows, row_count};
-ghost use Rattle.dev_model.specs.declared.page_faults.PageFault.TheVariants.{Failed, Damaged, OutOfMemory};
+ghost use Rattle.dev_model.specs.declared.page_faults.PageFault.TheVariants.{Failed, OutOfMemory};
 ghost use Rattle.tree_shape.specs.Shape.{level_size, level_start, IsRoot, IsPlace};
 ghost use Rattle.btree_image.specs.Given.{row_with_key};
 ghost use Rattle.btree_image.specs.Image.{shape_of, level_rows, IsList};
@@ -12,9 +12,9 @@ ghost use Rattle.btree_image.specs.Pages.{page_number};
 ghost use Rattle.btree_image.specs.Shown.{IsShown};
 ghost use Rattle.btree_image.specs.Lent.{AreLent};
 ghost use Rattle.btree_image.specs.Descent.{place_of_key, descent};
-ghost use Rattle.btree_image.specs.Damage.{IsInnerPage, IsDamaged};
-ghost use Rattle.btree_image.specs.Tested.{IsTested};
-ghost use Rattle.dev_model.specs.Asked.{Went, GoesBy};
+ghost use Rattle.btree_image.specs.Damage.{IsInnerPage};
+ghost use Rattle.btree_image.specs.Reading.{ReadsTree};
+ghost use Rattle.dev_model.specs.Asked.{fault_of, GoesBy};
 
 use crate::TreeRow;
 use crate::in_page::{child_for, row_for};
@@ -32,13 +32,11 @@ pub(crate) fn read_place<T: TreeRow, P: Pages>(
     buf: &mut [u8; PAGE_BYTES],
 ) -> Result<u32, dev_model::Failed>
     requires place { IsPlace (shape_of T.layout tree.rows) level at }
-    requires lent { AreLent T.layout (P.lent pages.old) tree.first tree.rows }
-    ensures same_lent { P.lent pages.new ≡ P.lent pages.old }
-    ensures same_contents { P.contents pages.new ≡ P.contents pages.old }
-    ensures cause { HasCause (P.fault_count pages.old) (P.fault_count pages.new) result }
+    requires lent { AreLent T.layout (P.lending pages.old).lent tree.first tree.rows }
+    ensures stays { StaysLent (P.lending pages.old) (P.lending pages.new) result }
     ensures asked { P.asked pages.old pages.new ((page_number T.layout tree.first tree.rows level at, is_ok result) ∷ []) }
     ensures number { IfOk result (λ page. page ≡ page_number T.layout tree.first tree.rows level at) }
-    ensures bytes { OnOk result (WhereTold (P.contents pages.old) (λ contents. buf.new ≡ contents (page_number T.layout tree.first tree.rows level at))) }
+    ensures bytes { OnOk result (WhereTold (P.lending pages.old).contents (λ contents. buf.new ≡ contents (page_number T.layout tree.first tree.rows level at))) }
 {
     let here = level_at::<T>(tree.rows, level);
     let page = (u64::from(tree.first) + (here.start + at)) as u32;
@@ -77,7 +75,7 @@ fn place_from<T: TreeRow>(
     ensures told { (list : List T) (at : ℕ) → IsList T.layout rows list → 0 < rows → at ≡ place_of_key T.layout list key.now (suc below)
         → level_start (shape_of T.layout rows) below + place_of_key T.layout list key.now below < 2 ^ 32
         → ShowsRows T.layout.inner (suc below) (level_rows T.layout list (suc below) at) page.now
-        → result ≡ Some (place_of_key T.layout list key.now below) }
+        → IfSome result (λ place. place ≡ place_of_key T.layout list key.now below) }
 {
     match child_for::<T>(page, below + 1, key) {
         Ok(child) => place_below::<T>(rows, below, child),
@@ -96,18 +94,12 @@ fn step<T: TreeRow, P: Pages>(
 ) -> Result<u64, PageFault>
     requires level { below < 255 }
     requires place { IsPlace (shape_of T.layout tree.rows) (suc below) at }
-    requires lent { AreLent T.layout (P.lent pages.old) tree.first tree.rows }
-    ensures same_lent { P.lent pages.new ≡ P.lent pages.old }
-    ensures same_contents { P.contents pages.new ≡ P.contents pages.old }
-    ensures later { P.fault_count pages.old ≤ P.fault_count pages.new }
-    ensures failed { IfErr result (λ fault. fault ≡ Failed → Rose (P.fault_count pages.old) (P.fault_count pages.new)) }
+    requires lent { AreLent T.layout (P.lending pages.old).lent tree.first tree.rows }
     ensures needs_no_memory { IfErr result (λ fault. fault ≢ OutOfMemory) }
-    ensures went { Went (P.lent pages.old) (P.asked pages.old pages.new) result (page_number T.layout tree.first tree.rows (suc below) at ∷ []) }
+    ensures reads { ReadsTree T.layout tree.first tree.rows P.lending P.asked pages.old pages.new (fault_of result) [] (page_number T.layout tree.first tree.rows (suc below) at ∷ []) }
     ensures inside { IfOk result (λ place. place < level_size (shape_of T.layout tree.rows) below) }
-    ensures damaged { WhereTold (P.contents pages.old) (λ contents. IfErr result (λ fault. (page : ℕ) → fault ≡ Damaged page → IsDamaged T.layout tree.first tree.rows contents page)) }
-    ensures tested { OnOk result (WhereTold (P.contents pages.old) (λ contents. IsTested T.layout tree.first tree.rows contents (page_number T.layout tree.first tree.rows (suc below) at))) }
-    ensures told { (list : List T) → IsShown T.layout (P.contents pages.old) tree.first tree.rows list → 0 < tree.rows → at ≡ place_of_key T.layout list key.now (suc below)
-        → MatchResult result (λ place. place ≡ place_of_key T.layout list key.now below) (λ fault. fault ≡ Failed) }
+    ensures told { (list : List T) → IsShown T.layout (P.lending pages.old).contents tree.first tree.rows list → 0 < tree.rows → at ≡ place_of_key T.layout list key.now (suc below)
+        → IfOk result (λ place. place ≡ place_of_key T.layout list key.now below) }
 {
     match read_place::<T, P>(pages, tree, below + 1, at, buf) {
         Err(_) => Err(PageFault::Failed),
@@ -127,17 +119,11 @@ fn leaf_row<T: TreeRow, P: Pages>(
     buf: &mut [u8; PAGE_BYTES],
 ) -> Result<Option<T>, PageFault>
     requires place { IsPlace (shape_of T.layout tree.rows) 0 at }
-    requires lent { AreLent T.layout (P.lent pages.old) tree.first tree.rows }
-    ensures same_lent { P.lent pages.new ≡ P.lent pages.old }
-    ensures same_contents { P.contents pages.new ≡ P.contents pages.old }
-    ensures later { P.fault_count pages.old ≤ P.fault_count pages.new }
-    ensures failed { IfErr result (λ fault. fault ≡ Failed → Rose (P.fault_count pages.old) (P.fault_count pages.new)) }
+    requires lent { AreLent T.layout (P.lending pages.old).lent tree.first tree.rows }
     ensures needs_no_memory { IfErr result (λ fault. fault ≢ OutOfMemory) }
-    ensures went { Went (P.lent pages.old) (P.asked pages.old pages.new) result (page_number T.layout tree.first tree.rows 0 at ∷ []) }
-    ensures damaged { WhereTold (P.contents pages.old) (λ contents. IfErr result (λ fault. (page : ℕ) → fault ≡ Damaged page → IsDamaged T.layout tree.first tree.rows contents page)) }
-    ensures tested { OnOk result (WhereTold (P.contents pages.old) (λ contents. IsTested T.layout tree.first tree.rows contents (page_number T.layout tree.first tree.rows 0 at))) }
-    ensures told { (list : List T) → IsShown T.layout (P.contents pages.old) tree.first tree.rows list → at ≡ place_of_key T.layout list key.now 0
-        → MatchResult result (λ found. found ≡ row_with_key T.layout list key.now) (λ fault. fault ≡ Failed) }
+    ensures reads { ReadsTree T.layout tree.first tree.rows P.lending P.asked pages.old pages.new (fault_of result) [] (page_number T.layout tree.first tree.rows 0 at ∷ []) }
+    ensures told { (list : List T) → IsShown T.layout (P.lending pages.old).contents tree.first tree.rows list → at ≡ place_of_key T.layout list key.now 0
+        → IfOk result (λ found. found ≡ row_with_key T.layout list key.now) }
 {
     match read_place::<T, P>(pages, tree, 0, at, buf) {
         Err(_) => Err(PageFault::Failed),
@@ -158,18 +144,12 @@ pub fn find<T: TreeRow, P: Pages>(
     tree: TreeRef,
     key: &T::Key,
 ) -> Result<Option<T>, PageFault>
-    requires { AreLent T.layout (P.lent pages.old) tree.first tree.rows }
-    ensures same_lent { P.lent pages.new ≡ P.lent pages.old }
-    ensures same_contents { P.contents pages.new ≡ P.contents pages.old }
-    ensures later { P.fault_count pages.old ≤ P.fault_count pages.new }
-    ensures failed { IfErr result (λ fault. fault ≡ Failed → Rose (P.fault_count pages.old) (P.fault_count pages.new)) }
+    requires { AreLent T.layout (P.lending pages.old).lent tree.first tree.rows }
     ensures needs_no_memory { IfErr result (λ fault. fault ≢ OutOfMemory) }
-    ensures damaged { WhereTold (P.contents pages.old) (λ contents. IfErr result (λ fault. (page : ℕ) → fault ≡ Damaged page → IsDamaged T.layout tree.first tree.rows contents page)) }
-    ensures found { (list : List T) → IsShown T.layout (P.contents pages.old) tree.first tree.rows list
+    ensures found { (list : List T) → IsShown T.layout (P.lending pages.old).contents tree.first tree.rows list
         → MatchResult result (λ found. found ≡ row_with_key T.layout list key.now) (λ fault. fault ≡ Failed) }
-    ensures asked { (seen : List ℕ) × Went (P.lent pages.old) (P.asked pages.old pages.new) result seen
-        × OnOk result (WhereTold (P.contents pages.old) (λ contents. All (IsTested T.layout tree.first tree.rows contents) seen))
-        × ((list : List T) (root : ℕ) → IsShown T.layout (P.contents pages.old) tree.first tree.rows list → IsRoot (shape_of T.layout tree.rows) root
+    ensures reads { (seen : List ℕ) × ReadsTree T.layout tree.first tree.rows P.lending P.asked pages.old pages.new (fault_of result) [] seen
+        × ((list : List T) (root : ℕ) → IsShown T.layout (P.lending pages.old).contents tree.first tree.rows list → IsRoot (shape_of T.layout tree.rows) root
         → GoesBy result seen (descent T.layout tree.first list key.now root)) }
 {
     let mut buf = [0; PAGE_BYTES];

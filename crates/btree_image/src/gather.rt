@@ -12,7 +12,8 @@ ghost use Rattle.btree_image.specs.Descent.{rank};
 ghost use Rattle.btree_image.specs.Damage.{AllReadable};
 ghost use Rattle.btree_image.specs.Steps.{reaches, precedes, IsLastUpTo};
 ghost use Rattle.btree_image.specs.Given.{AreRanges, rows_met};
-ghost use Rattle.btree_image.specs.Walks.{GoesOn, fault_of, IsInHand, Holds, in_hand, places_in, next_behind, walk, rank_below, Leads, AllLead, part, rows_of};
+ghost use Rattle.dev_model.specs.Asked.{fault_of};
+ghost use Rattle.btree_image.specs.Walks.{GoesOn, IsInHand, Holds, in_hand, places_in, next_behind, walk, rank_below, Leads, AllLead, part, rows_of};
 
 use crate::TreeRow;
 use crate::hand::{InHand, reach};
@@ -92,14 +93,14 @@ fn gather_page<T: TreeRow, P: Pages>(
 ) -> Result<(), PageFault>
     requires place { at < level_size (shape_of T.layout tree.rows) 0 }
     requires in_run { at < run.end }
-    requires lent { AreLent T.layout (P.lent pages.old) tree.first tree.rows }
-    requires holds { Holds T.layout tree.first tree.rows (P.contents pages.old) 0 hand.old }
-    ensures goes { GoesOn T.layout tree.first tree.rows P.lent P.contents P.fault_count P.asked pages.old pages.new (fault_of result)
+    requires lent { AreLent T.layout (P.lending pages.old).lent tree.first tree.rows }
+    requires holds { Holds T.layout tree.first tree.rows (P.lending pages.old).contents 0 hand.old }
+    ensures goes { GoesOn T.layout tree.first tree.rows P.lending P.asked pages.old pages.new (fault_of result)
         (in_hand T.layout tree.first tree.rows 0 hand.old.next) (map (page_number T.layout tree.first tree.rows 0) (places_in hand.old.next at (suc at))) }
     ensures next { OnOk result (hand.new.next ≡ max hand.old.next (suc at)) }
-    ensures holds { OnOk result (Holds T.layout tree.first tree.rows (P.contents pages.old) 0 hand.new) }
+    ensures holds { OnOk result (Holds T.layout tree.first tree.rows (P.lending pages.old).contents 0 hand.new) }
     ensures adds { (added : List T) × (out.new.items ≡ out.old.items ++ added)
-        × ((list : List T) → IsShown T.layout (P.contents pages.old) tree.first tree.rows list → Leads T.layout list 0 range.now run
+        × ((list : List T) → IsShown T.layout (P.lending pages.old).contents tree.first tree.rows list → Leads T.layout list 0 range.now run
         → hand.old.next ≤ suc at → run.first ≤ at → at < run.end
         → OnOk result (added ≡ part list (max (rank_below T.layout list range.now.0) (at * most_rows T.layout.leaf)) (min (rank T.layout list range.now.1) (suc at * most_rows T.layout.leaf)))) }
 {
@@ -122,14 +123,14 @@ fn gather_run<T: TreeRow, P: Pages>(
     out: &mut Vec<T>,
 ) -> Result<(), PageFault>
     requires inside { run.end ≤ level_size (shape_of T.layout tree.rows) 0 }
-    requires lent { AreLent T.layout (P.lent pages.old) tree.first tree.rows }
-    requires holds { Holds T.layout tree.first tree.rows (P.contents pages.old) 0 hand.old }
-    ensures goes { GoesOn T.layout tree.first tree.rows P.lent P.contents P.fault_count P.asked pages.old pages.new (fault_of result)
+    requires lent { AreLent T.layout (P.lending pages.old).lent tree.first tree.rows }
+    requires holds { Holds T.layout tree.first tree.rows (P.lending pages.old).contents 0 hand.old }
+    ensures goes { GoesOn T.layout tree.first tree.rows P.lending P.asked pages.old pages.new (fault_of result)
         (in_hand T.layout tree.first tree.rows 0 hand.old.next) (map (page_number T.layout tree.first tree.rows 0) (places_in hand.old.next run.first run.end)) }
     ensures next { OnOk result (hand.new.next ≡ next_behind hand.old.next run.first run.end) }
-    ensures holds { OnOk result (Holds T.layout tree.first tree.rows (P.contents pages.old) 0 hand.new) }
+    ensures holds { OnOk result (Holds T.layout tree.first tree.rows (P.lending pages.old).contents 0 hand.new) }
     ensures adds { (added : List T) × (out.new.items ≡ out.old.items ++ added)
-        × ((list : List T) → IsShown T.layout (P.contents pages.old) tree.first tree.rows list → Leads T.layout list 0 range.now run
+        × ((list : List T) → IsShown T.layout (P.lending pages.old).contents tree.first tree.rows list → Leads T.layout list 0 range.now run
         → hand.old.next ≤ suc run.first → OnOk result (added ≡ rows_of T.layout list range.now)) }
 {
     for at in run.first..run.end {
@@ -152,10 +153,10 @@ pub(crate) fn gather<T: TreeRow, P: Pages>(
 ) -> Result<(), PageFault>
     requires same_count { length runs.now ≡ length ranges.now }
     requires inside { All (λ run. run.end ≤ level_size (shape_of T.layout tree.rows) 0) runs.now }
-    requires lent { AreLent T.layout (P.lent pages.old) tree.first tree.rows }
-    ensures goes { GoesOn T.layout tree.first tree.rows P.lent P.contents P.fault_count P.asked pages.old pages.new (fault_of result) [] (map (page_number T.layout tree.first tree.rows 0) (walk 0 runs.now)) }
+    requires lent { AreLent T.layout (P.lending pages.old).lent tree.first tree.rows }
+    ensures goes { GoesOn T.layout tree.first tree.rows P.lending P.asked pages.old pages.new (fault_of result) [] (map (page_number T.layout tree.first tree.rows 0) (walk 0 runs.now)) }
     ensures adds { (added : List T) × (out.new.items ≡ out.old.items ++ added)
-        × ((list : List T) → IsShown T.layout (P.contents pages.old) tree.first tree.rows list → AreRanges T.layout.order ranges.now
+        × ((list : List T) → IsShown T.layout (P.lending pages.old).contents tree.first tree.rows list → AreRanges T.layout.order ranges.now
         → AllLead T.layout list 0 ranges.now runs.now → OnOk result (added ≡ rows_met T.layout list ranges.now)) }
 {
     hand.next = 0;

@@ -6,7 +6,8 @@ ghost use Rattle.tree_shape.specs.Shape.{level_size, IsPlace};
 ghost use Rattle.btree_image.specs.Image.{shape_of, level_kind};
 ghost use Rattle.btree_image.specs.Pages.{page_number};
 ghost use Rattle.btree_image.specs.Lent.{AreLent};
-ghost use Rattle.btree_image.specs.Walks.{GoesOn, fault_of, IsInHand, Holds, places_in};
+ghost use Rattle.dev_model.specs.Asked.{fault_of};
+ghost use Rattle.btree_image.specs.Walks.{GoesOn, IsInHand, Holds, places_in};
 
 use crate::TreeRow;
 use crate::descend::read_place;
@@ -48,10 +49,10 @@ fn take<T: TreeRow, P: Pages>(
     hand: &mut InHand,
 ) -> Result<(), PageFault>
     requires place { IsPlace (shape_of T.layout tree.rows) level at }
-    requires lent { AreLent T.layout (P.lent pages.old) tree.first tree.rows }
-    ensures goes { GoesOn T.layout tree.first tree.rows P.lent P.contents P.fault_count P.asked pages.old pages.new (fault_of result) [] (page_number T.layout tree.first tree.rows level at ∷ []) }
+    requires lent { AreLent T.layout (P.lending pages.old).lent tree.first tree.rows }
+    ensures goes { GoesOn T.layout tree.first tree.rows P.lending P.asked pages.old pages.new (fault_of result) [] (page_number T.layout tree.first tree.rows level at ∷ []) }
     ensures next { OnOk result (hand.new.next ≡ at + 1) }
-    ensures in_hand { OnOk result (IsInHand T.layout tree.first tree.rows (P.contents pages.old) level at hand.new) }
+    ensures in_hand { OnOk result (IsInHand T.layout tree.first tree.rows (P.lending pages.old).contents level at hand.new) }
 {
     match read_place::<T, P>(pages, tree, level, at, &mut hand.buf) {
         Err(_) => Err(PageFault::Failed),
@@ -76,11 +77,11 @@ pub(crate) fn reach<T: TreeRow, P: Pages>(
     hand: &mut InHand,
 ) -> Result<(), PageFault>
     requires place { IsPlace (shape_of T.layout tree.rows) level at }
-    requires lent { AreLent T.layout (P.lent pages.old) tree.first tree.rows }
-    requires holds { Holds T.layout tree.first tree.rows (P.contents pages.old) level hand.old }
-    ensures goes { GoesOn T.layout tree.first tree.rows P.lent P.contents P.fault_count P.asked pages.old pages.new (fault_of result) [] (map (page_number T.layout tree.first tree.rows level) (places_in hand.old.next at (suc at))) }
+    requires lent { AreLent T.layout (P.lending pages.old).lent tree.first tree.rows }
+    requires holds { Holds T.layout tree.first tree.rows (P.lending pages.old).contents level hand.old }
+    ensures goes { GoesOn T.layout tree.first tree.rows P.lending P.asked pages.old pages.new (fault_of result) [] (map (page_number T.layout tree.first tree.rows level) (places_in hand.old.next at (suc at))) }
     ensures next { OnOk result (hand.new.next ≡ max hand.old.next (suc at)) }
-    ensures in_hand { OnOk result (IsInHand T.layout tree.first tree.rows (P.contents pages.old) level (hand.new.next - 1) hand.new) }
+    ensures in_hand { OnOk result (IsInHand T.layout tree.first tree.rows (P.lending pages.old).contents level (hand.new.next - 1) hand.new) }
 {
     if hand.next <= at {
         return take::<T, P>(pages, tree, level, at, hand);

@@ -10,7 +10,8 @@ ghost use Rattle.btree_image.specs.Shown.{IsShown};
 ghost use Rattle.btree_image.specs.Lent.{AreLent};
 ghost use Rattle.btree_image.specs.Steps.{reaches, IsLastUpTo};
 ghost use Rattle.btree_image.specs.Given.{AreRanges};
-ghost use Rattle.btree_image.specs.Walks.{GoesOn, fault_of, IsInHand, Holds, places_in, next_behind, walk, run_of, Leads, AllLead, AllRuns};
+ghost use Rattle.dev_model.specs.Asked.{fault_of};
+ghost use Rattle.btree_image.specs.Walks.{GoesOn, IsInHand, Holds, places_in, next_behind, walk, run_of, Leads, AllLead, AllRuns};
 
 use crate::TreeRow;
 use crate::hand::{InHand, reach};
@@ -30,11 +31,11 @@ fn pass<T: TreeRow, P: Pages>(
 ) -> Result<(), PageFault>
     requires up_to_root { (below : ℕ) → below < level → 1 < level_size (shape_of T.layout tree.rows) below }
     requires inside { run.end ≤ level_size (shape_of T.layout tree.rows) level }
-    requires lent { AreLent T.layout (P.lent pages.old) tree.first tree.rows }
-    requires holds { Holds T.layout tree.first tree.rows (P.contents pages.old) level hand.old }
-    ensures goes { GoesOn T.layout tree.first tree.rows P.lent P.contents P.fault_count P.asked pages.old pages.new (fault_of result) [] (map (page_number T.layout tree.first tree.rows level) (places_in hand.old.next run.first run.end)) }
+    requires lent { AreLent T.layout (P.lending pages.old).lent tree.first tree.rows }
+    requires holds { Holds T.layout tree.first tree.rows (P.lending pages.old).contents level hand.old }
+    ensures goes { GoesOn T.layout tree.first tree.rows P.lending P.asked pages.old pages.new (fault_of result) [] (map (page_number T.layout tree.first tree.rows level) (places_in hand.old.next run.first run.end)) }
     ensures next { OnOk result (hand.new.next ≡ next_behind hand.old.next run.first run.end) }
-    ensures holds { OnOk result (Holds T.layout tree.first tree.rows (P.contents pages.old) level hand.new) }
+    ensures holds { OnOk result (Holds T.layout tree.first tree.rows (P.lending pages.old).contents level hand.new) }
 {
     for at in run.first..run.end {
         match reach::<T, P>(pages, tree, level, at, hand) {
@@ -86,13 +87,13 @@ fn narrow_run<T: TreeRow, P: Pages>(
     requires level { below < 255 }
     requires up_to_root { (j : ℕ) → j < suc below → 1 < level_size (shape_of T.layout tree.rows) j }
     requires inside { run.end ≤ level_size (shape_of T.layout tree.rows) (suc below) }
-    requires lent { AreLent T.layout (P.lent pages.old) tree.first tree.rows }
-    requires holds { Holds T.layout tree.first tree.rows (P.contents pages.old) (suc below) hand.old }
-    ensures goes { GoesOn T.layout tree.first tree.rows P.lent P.contents P.fault_count P.asked pages.old pages.new (fault_of result) [] (map (page_number T.layout tree.first tree.rows (suc below)) (places_in hand.old.next run.first run.end)) }
+    requires lent { AreLent T.layout (P.lending pages.old).lent tree.first tree.rows }
+    requires holds { Holds T.layout tree.first tree.rows (P.lending pages.old).contents (suc below) hand.old }
+    ensures goes { GoesOn T.layout tree.first tree.rows P.lending P.asked pages.old pages.new (fault_of result) [] (map (page_number T.layout tree.first tree.rows (suc below)) (places_in hand.old.next run.first run.end)) }
     ensures next { OnOk result (hand.new.next ≡ next_behind hand.old.next run.first run.end) }
-    ensures holds { OnOk result (Holds T.layout tree.first tree.rows (P.contents pages.old) (suc below) hand.new) }
+    ensures holds { OnOk result (Holds T.layout tree.first tree.rows (P.lending pages.old).contents (suc below) hand.new) }
     ensures inside { IfOk result (λ new. new.end ≤ level_size (shape_of T.layout tree.rows) below) }
-    ensures told { (list : List T) → IsShown T.layout (P.contents pages.old) tree.first tree.rows list → Leads T.layout list (suc below) range.now run
+    ensures told { (list : List T) → IsShown T.layout (P.lending pages.old).contents tree.first tree.rows list → Leads T.layout list (suc below) range.now run
         → T.layout.order range.now.0 range.now.1 ≢ Greater → hand.old.next ≤ suc run.first → IfOk result (λ new. new ≡ run_of T.layout list below range.now) }
 {
     if run.first >= run.end {
@@ -127,11 +128,11 @@ pub(crate) fn narrow<T: TreeRow, P: Pages>(
     requires up_to_root { (j : ℕ) → j < suc below → 1 < level_size (shape_of T.layout tree.rows) j }
     requires same_count { length runs.old ≡ length ranges.now }
     requires inside { All (λ run. run.end ≤ level_size (shape_of T.layout tree.rows) (suc below)) runs.old }
-    requires lent { AreLent T.layout (P.lent pages.old) tree.first tree.rows }
-    ensures goes { GoesOn T.layout tree.first tree.rows P.lent P.contents P.fault_count P.asked pages.old pages.new (fault_of result) [] (map (page_number T.layout tree.first tree.rows (suc below)) (walk 0 runs.old)) }
+    requires lent { AreLent T.layout (P.lending pages.old).lent tree.first tree.rows }
+    ensures goes { GoesOn T.layout tree.first tree.rows P.lending P.asked pages.old pages.new (fault_of result) [] (map (page_number T.layout tree.first tree.rows (suc below)) (walk 0 runs.old)) }
     ensures count { length runs.new ≡ length runs.old }
     ensures inside { OnOk result (All (λ run. run.end ≤ level_size (shape_of T.layout tree.rows) below) runs.new) }
-    ensures told { (list : List T) → IsShown T.layout (P.contents pages.old) tree.first tree.rows list → AreRanges T.layout.order ranges.now
+    ensures told { (list : List T) → IsShown T.layout (P.lending pages.old).contents tree.first tree.rows list → AreRanges T.layout.order ranges.now
         → AllLead T.layout list (suc below) ranges.now runs.old → OnOk result (AllRuns T.layout list below ranges.now runs.new) }
 {
     hand.next = 0;

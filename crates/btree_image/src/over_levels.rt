@@ -1,19 +1,16 @@
 //! A scan of ranges of keys, level by level, with one page in hand.
 
-ghost use Rattle.std.specs.Prelude.{◌≡◌, ◌≢◌, ℕ, suc, [], ◌++◌, ◌+◌, ◌<◌, ◌≤◌, List, length, replicate, All, AllPairs, OnOk, OnErr, IfErr, MatchResult, ◌⊎◌};
-ghost use Rattle.dev_model.specs.Counts.{Rose};
-ghost use Rattle.dev_model.specs.Story.{WhereTold};
-ghost use Rattle.dev_model.specs.declared.page_faults.PageFault.TheVariants.{Failed, Damaged, OutOfMemory};
+ghost use Rattle.std.specs.Prelude.{◌≡◌, ◌≢◌, ℕ, [], ◌++◌, List, length, replicate, AllPairs, OnOk, OnErr, MatchResult, ◌⊎◌};
+ghost use Rattle.dev_model.specs.declared.page_faults.PageFault.TheVariants.{Failed, OutOfMemory};
 ghost use Rattle.tree_shape.specs.Shape.{IsRoot};
 ghost use Rattle.btree_image.specs.Image.{shape_of};
 ghost use Rattle.btree_image.specs.Shown.{IsShown};
 ghost use Rattle.btree_image.specs.Lent.{AreLent};
-ghost use Rattle.btree_image.specs.Damage.{IsDamaged};
-ghost use Rattle.btree_image.specs.Tested.{IsTested};
-ghost use Rattle.dev_model.specs.Asked.{Went, GoesBy};
+ghost use Rattle.btree_image.specs.Reading.{ReadsTree};
+ghost use Rattle.dev_model.specs.Asked.{fault_of, GoesAlong, GoesBy};
 ghost use Rattle.btree_image.specs.Visited.{visited_pages};
 ghost use Rattle.btree_image.specs.Given.{AreRanges, rows_met};
-ghost use Rattle.btree_image.specs.Walks.{GoesOn, GoesAlong, fault_of};
+ghost use Rattle.btree_image.specs.Walks.{GoesOn};
 
 use crate::TreeRow;
 use crate::gather::gather;
@@ -33,13 +30,13 @@ fn scan_levels<T: TreeRow, P: Pages>(
     runs: &mut [Run],
     out: &mut Vec<T>,
 ) -> Result<(), PageFault>
-    requires lent { AreLent T.layout (P.lent pages.old) tree.first tree.rows }
+    requires lent { AreLent T.layout (P.lending pages.old).lent tree.first tree.rows }
     requires runs { runs.old ≡ replicate (length ranges.now) (record { first = 0; end = 1 }) }
-    ensures way { (way : List ℕ) × GoesOn T.layout tree.first tree.rows P.lent P.contents P.fault_count P.asked pages.old pages.new (fault_of result) [] way × AllPairs (λ a b. a ≢ b) way
-        × ((list : List T) (root : ℕ) → IsShown T.layout (P.contents pages.old) tree.first tree.rows list → AreRanges T.layout.order ranges.now → IsRoot (shape_of T.layout tree.rows) root
+    ensures way { (way : List ℕ) × GoesOn T.layout tree.first tree.rows P.lending P.asked pages.old pages.new (fault_of result) [] way × AllPairs (λ a b. a ≢ b) way
+        × ((list : List T) (root : ℕ) → IsShown T.layout (P.lending pages.old).contents tree.first tree.rows list → AreRanges T.layout.order ranges.now → IsRoot (shape_of T.layout tree.rows) root
         → GoesAlong (fault_of result) way (visited_pages T.layout list ranges.now tree.first root)) }
     ensures adds { (added : List T) × (out.new.items ≡ out.old.items ++ added)
-        × ((list : List T) → IsShown T.layout (P.contents pages.old) tree.first tree.rows list → AreRanges T.layout.order ranges.now → OnOk result (added ≡ rows_met T.layout list ranges.now)) }
+        × ((list : List T) → IsShown T.layout (P.lending pages.old).contents tree.first tree.rows list → AreRanges T.layout.order ranges.now → OnOk result (added ≡ rows_met T.layout list ranges.now)) }
 {
     let mut hand = InHand {
         next: 0,
@@ -61,28 +58,6 @@ fn scan_levels<T: TreeRow, P: Pages>(
     gather(pages, tree, ranges, runs, &mut hand, out)
 }
 
-// A scan that leaves what it has found so far when it is refused.
-fn scan_runs<T: TreeRow, P: Pages>(
-    pages: &mut P,
-    tree: TreeRef,
-    ranges: &[(T::Key, T::Key)],
-    out: &mut Vec<T>,
-) -> Result<(), PageFault>
-    requires lent { AreLent T.layout (P.lent pages.old) tree.first tree.rows }
-    ensures way { (way : List ℕ) × GoesOn T.layout tree.first tree.rows P.lent P.contents P.fault_count P.asked pages.old pages.new (fault_of result) [] way × AllPairs (λ a b. a ≢ b) way
-        × ((list : List T) (root : ℕ) → IsShown T.layout (P.contents pages.old) tree.first tree.rows list → AreRanges T.layout.order ranges.now → IsRoot (shape_of T.layout tree.rows) root
-        → GoesAlong (fault_of result) way (visited_pages T.layout list ranges.now tree.first root)) }
-    ensures adds { (added : List T) × (out.new.items ≡ out.old.items ++ added)
-        × ((list : List T) → IsShown T.layout (P.contents pages.old) tree.first tree.rows list → AreRanges T.layout.order ranges.now → OnOk result (added ≡ rows_met T.layout list ranges.now)) }
-{
-    let mut runs = Vec::new(*out.allocator());
-    match runs.resize(ranges.len(), Run { first: 0, end: 1 }) {
-        Ok(()) => {}
-        Err(_) => return Err(PageFault::OutOfMemory),
-    }
-    scan_levels(pages, tree, ranges, &mut runs, out)
-}
-
 /// Appends the rows whose keys lie in the ranges, in the order of the tree's list. Ranges are closed, and each is behind the
 /// one before it.
 ///
@@ -96,27 +71,23 @@ pub fn scan<T: TreeRow, P: Pages>(
     ranges: &[(T::Key, T::Key)],
     out: &mut Vec<T>,
 ) -> Result<(), PageFault>
-    requires { AreLent T.layout (P.lent pages.old) tree.first tree.rows }
-    ensures same_lent { P.lent pages.new ≡ P.lent pages.old }
-    ensures same_contents { P.contents pages.new ≡ P.contents pages.old }
-    ensures later { P.fault_count pages.old ≤ P.fault_count pages.new }
-    ensures failed { IfErr result (λ fault. fault ≡ Failed → Rose (P.fault_count pages.old) (P.fault_count pages.new)) }
-    ensures damaged { WhereTold (P.contents pages.old) (λ contents. IfErr result (λ fault. (page : ℕ) → fault ≡ Damaged page → IsDamaged T.layout tree.first tree.rows contents page)) }
+    requires { AreLent T.layout (P.lending pages.old).lent tree.first tree.rows }
     ensures keeps { (added : List T) × (out.new.items ≡ out.old.items ++ added) }
     ensures refused { OnErr result (out.new.items ≡ out.old.items) }
-    ensures rows { (list : List T) → IsShown T.layout (P.contents pages.old) tree.first tree.rows list → AreRanges T.layout.order ranges.now
+    ensures rows { (list : List T) → IsShown T.layout (P.lending pages.old).contents tree.first tree.rows list → AreRanges T.layout.order ranges.now
         → MatchResult result (λ _. out.new.items ≡ out.old.items ++ rows_met T.layout list ranges.now) (λ fault. (fault ≡ Failed) ⊎ (fault ≡ OutOfMemory)) }
-    ensures asked { (seen : List ℕ) × Went (P.lent pages.old) (P.asked pages.old pages.new) result seen × AllPairs (λ a b. a ≢ b) seen
-        × OnOk result (WhereTold (P.contents pages.old) (λ contents. All (IsTested T.layout tree.first tree.rows contents) seen))
-        × ((list : List T) (root : ℕ) → IsShown T.layout (P.contents pages.old) tree.first tree.rows list → AreRanges T.layout.order ranges.now → IsRoot (shape_of T.layout tree.rows) root
+    ensures reads { (seen : List ℕ) × ReadsTree T.layout tree.first tree.rows P.lending P.asked pages.old pages.new (fault_of result) [] seen × AllPairs (λ a b. a ≢ b) seen
+        × ((list : List T) (root : ℕ) → IsShown T.layout (P.lending pages.old).contents tree.first tree.rows list → AreRanges T.layout.order ranges.now → IsRoot (shape_of T.layout tree.rows) root
         → GoesBy result seen (visited_pages T.layout list ranges.now tree.first root)) }
 {
-    let before = out.len();
-    match scan_runs(pages, tree, ranges, out) {
-        Ok(()) => Ok(()),
-        Err(fault) => {
-            out.truncate(before);
-            Err(fault)
-        }
+    let mut runs = Vec::new(*out.allocator());
+    if runs.resize(ranges.len(), Run { first: 0, end: 1 }).is_err() {
+        return Err(PageFault::OutOfMemory);
     }
+    let before = out.len();
+    if let Err(fault) = scan_levels(pages, tree, ranges, &mut runs, out) {
+        out.truncate(before);
+        return Err(fault);
+    }
+    Ok(())
 }

@@ -6,6 +6,7 @@ pub mod DeviceCalls
 pub mod Doing
 pub mod Given
 pub mod Laws
+pub mod Lending
 pub mod Moments
 pub mod Story
 pub mod StreamCalls

@@ -2,7 +2,9 @@
 use Rattle.std.specs.Prelude.{ℕ, zero, suc, ◌+◌, ◌*◌, Bool, true, ◌&&◌, ◌||◌, not, nat_le, nat_lt, if◌then◌else◌, List, [], ◌∷◌, length, Option, Some, None}
 use Rattle.std.specs.List.{list_all}
 use Rattle.space_map.specs.declared.space.Extent.{Extent}
-use Rattle.dev_model.specs.Story.{Write, FailedWrite, Past, Story, bytes_of, part}
+use Rattle.dev_model.specs.Story.{DeviceState, Write, FailedWrite, Past, Story, bytes_of, part}
+use Rattle.dev_model.specs.Lending.{Lending}
+use Rattle.device_pages.specs.Lent.{is_lent}
 use Rattle.device_pages.specs.declared.lending.TheConstants.{PAGE_BYTES}
 
 abbrev pub is_inside : (at count i : ℕ) → Bool
@@ -31,3 +33,7 @@ page_bytes s page = part (page * PAGE_BYTES) PAGE_BYTES (bytes_of s)
 abbrev pub contents_of : List Extent → Option Story → Option (ℕ → List ℕ)
 contents_of extents None = None
 contents_of extents (Some s) = if are_readable s.past extents then Some (page_bytes s) else None
+
+-- these pages, lent of a device
+abbrev pub lending_of : List Extent → DeviceState → Lending
+lending_of extents device = record { lent = is_lent extents; contents = contents_of extents device.story; faults = device.faults }

@@ -1,8 +1,7 @@
 // A device's pages, lent for as long as the device is borrowed.
 ghost use Rattle.std.specs.Prelude.{◌≡◌, ◌+◌, ◌*◌, ◌<◌, ◌≤◌, ◌^◌, ℕ, IsTrue, All};
 ghost use Rattle.space_map.specs.Space.{end_of};
-ghost use Rattle.device_pages.specs.Lending.{contents_of};
-ghost use Rattle.device_pages.specs.Lent.{is_lent};
+ghost use Rattle.device_pages.specs.Lending.{lending_of};
 ghost use Rattle.device_pages.specs.Asked.{Asked};
 
 use dev_model::{Device, Failed, Pages};
@@ -41,16 +40,12 @@ impl<D: Device> Pages for DevicePages<'_, D> {
     ghost use Rattle.device_pages.specs.Laws.Asked.{asked-none, asked-then};
     ghost use Rattle.device_pages.specs.Laws.Lending.{lent_fits};
 
-    ghost lent = { λ pages page. is_lent pages.extents.now page };
-
-    ghost contents = { λ pages. contents_of pages.extents.now (D.seen pages.device.now).story };
+    ghost lending = { λ pages. lending_of pages.extents.now (D.seen pages.device.now) };
 
     ghost asked = { λ old new reads.
         (new.device.ghost_name ≡ old.device.ghost_name)
         × (new.extents.now ≡ old.extents.now)
         × Asked reads (D.seen old.device.now) (D.seen new.device.now) };
-
-    ghost fault_count = { λ pages. (D.seen pages.device.now).faults };
 
     fn faults(&self) -> u64 {
         self.device.faults()

@@ -52,13 +52,9 @@ impl Pages for MemPages {
     ghost use Rattle.std.specs.Prelude.{None, nat_lt, ◌^◌};
     ghost use Rattle.tree_tests.specs.Lending.{page_fits};
 
-    ghost lent = { λ pages page. nat_lt page (2 ^ 32) };
-
-    ghost contents = { λ pages. None };
+    ghost lending = { λ pages. record { lent = λ page. nat_lt page (2 ^ 32); contents = None; faults = pages.faults } };
 
     ghost asked = { λ first second reads. Unit {0} };
-
-    ghost fault_count = { λ pages. pages.faults };
 
     fn faults(&self) -> u64 {
         self.faults

@@ -1,5 +1,5 @@
 -- Laws of the lists of calls that succeeded. No public contract needs them.
-use Rattle.std.proofs.Common.{◌≡◌, ℕ, suc, ◌+◌, ◌-◌, ◌≤◌, List, [], ◌∷◌, ◌++◌, length, drop, refl, ◌∙◌, ap, arith}
+use Rattle.std.proofs.Common.{◌≡◌, ℕ, suc, ◌+◌, List, [], ◌∷◌, ◌++◌, length, ◌∙◌, ap, arith}
 use Rattle.dev_model.specs.Story.{Call, Read, Write, Sync, FailedWrite, FailedCall, Calls, Story, clock_of, with_call, after}
 use Rattle.dev_model.specs.DeviceCalls.{made_at, ok_calls}
 use Rattle.dev_model.specs.declared.calls.DeviceCall.{DeviceCall}

@@ -1,28 +1,20 @@
-use Rattle.std.proofs.Common.{◌≡◌, ℕ, ◌≤◌, List, ◌++◌, All}
-use Rattle.std.specs.Prelude.{IsTrue}
+use Rattle.std.proofs.Common.{◌≡◌, ℕ, ◌≤◌, List, [], ◌++◌, None}
 use Rattle.tree_shape.specs.Shape.{IsRoot, IsPlace}
 use Rattle.btree_image.specs.Image.{shape_of}
 use Rattle.btree_image.specs.Shown.{IsShown}
 use Rattle.btree_image.specs.Descent.{place_of_key, descent}
-use Rattle.btree_image.specs.Tested.{IsTested}
-use Rattle.dev_model.specs.Story.{WhereTold}
-use Rattle.dev_model.specs.Given.{given}
+use Rattle.btree_image.specs.Reading.{ReadsTree}
 use Rattle.btree_image.proofs.descend.find.Given as goal
 
 abbrev pub invariant-loop-level : goal.invariant-loop-level
 invariant-loop-level g l = record {
   place : IsPlace (shape_of g.T.TreeRow.layout l.tree.rows) l.level l.at;
   low : l.level ≤ 33;
-  same_lent : g.P.Pages.lent l.pages ≡ g.P.Pages.lent l.initial.pages;
-  same_contents : g.P.Pages.contents l.pages ≡ g.P.Pages.contents l.initial.pages;
-  later : g.P.Pages.fault_count l.initial.pages ≤ g.P.Pages.fault_count l.pages;
   seen : List ℕ;
-  asked : g.P.Pages.asked l.initial.pages l.pages (given seen);
-  are_lent : All (λ page. IsTrue (g.P.Pages.lent l.initial.pages page)) seen;
-  tested : WhereTold (g.P.Pages.contents l.initial.pages) (λ contents. All (IsTested g.T.TreeRow.layout l.tree.first l.tree.rows contents) seen);
-  told : (list : List g.row.T.Denot) → IsShown g.T.TreeRow.layout (g.P.Pages.contents l.initial.pages) l.tree.first l.tree.rows list
+  reads : ReadsTree g.T.TreeRow.layout l.tree.first l.tree.rows g.P.Pages.lending g.P.Pages.asked l.initial.pages l.pages None [] seen;
+  told : (list : List g.row.T.Denot) → IsShown g.T.TreeRow.layout (g.P.Pages.lending l.initial.pages).contents l.tree.first l.tree.rows list
       → l.at ≡ place_of_key g.T.TreeRow.layout list l.key l.level;
-  way : (list : List g.row.T.Denot) (root : ℕ) → IsShown g.T.TreeRow.layout (g.P.Pages.contents l.initial.pages) l.tree.first l.tree.rows list
+  way : (list : List g.row.T.Denot) (root : ℕ) → IsShown g.T.TreeRow.layout (g.P.Pages.lending l.initial.pages).contents l.tree.first l.tree.rows list
       → IsRoot (shape_of g.T.TreeRow.layout l.tree.rows) root
       → seen ++ descent g.T.TreeRow.layout l.tree.first list l.key l.level ≡ descent g.T.TreeRow.layout l.tree.first list l.key root;
 }

@@ -1,13 +1,12 @@
 use Rattle.std.proofs.Common.{arith, ◌∙◌, inl, inr, length}
 use Rattle.std.proofs.lemmas.Bool.{cases_lt}
 use Rattle.btree_image.proofs.Widths.{leaf_room, inner_room}
-use Rattle.btree_image.proofs.Told.{readable, shown_read, leaf_place, leaf_row-told, no_rows, damaged_at, tested_at}
-use Rattle.dev_model.specs.Laws.Trail.{went-failed}
+use Rattle.btree_image.proofs.Told.{shown_read, leaf_place, leaf_row-told, no_rows, damaged_at, tested_at}
+use Rattle.dev_model.specs.Laws.Trail.{reads-refused, reads-given, reads-bad}
 use Rattle.btree_image.proofs.descend.leaf_row.Goals as goal
 
-pub returns-in-Err-clause-went : goal.returns-in-Err-clause-went
-returns-in-Err-clause-went g c =
-    went-failed (g.P.Pages.asked) (g.met.P.Pages.asked_then) (g.P.Pages.lent c.args.pages.now) _ _ _ c.in-Err.ensures.asked (c.requires.lent 0 c.args.at c.requires.place)
+pub returns-in-Err-clause-reads : goal.returns-in-Err-clause-reads
+returns-in-Err-clause-reads g c = reads-refused _ _ c.in-Err.ensures.stays c.in-Err.ensures.asked (c.requires.lent 0 c.args.at c.requires.place)
 
 pub returns-in-Ok-row_for-clause-told : goal.returns-in-Ok-row_for-clause-told
 returns-in-Ok-row_for-clause-told g c list shown e =
@@ -25,18 +24,14 @@ returns-in-Ok-row_for-clause-told g c list shown e =
           c.in-Ok-row_for.ensures.none empty.0 ∙ empty.1)
     ]
 
-pub returns-in-Err-row_for-clause-told : goal.returns-in-Err-row_for-clause-told
-returns-in-Err-row_for-clause-told g c list shown e =
-    let l = g.T.TreeRow.layout in
-    let shows = shown_read l list c.args.tree.first c.args.tree.rows _ shown c.read_place.new.buf 0 c.args.at c.requires.place c.in-Ok.ensures.bytes in
-    absurd (c.in-Err-row_for.ensures.bad shows.page (readable l list shown.is.stored c.args.at _ shows.all))
+pub returns-in-Ok-row_for-clause-reads : goal.returns-in-Ok-row_for-clause-reads
+returns-in-Ok-row_for-clause-reads g c =
+    reads-given _ _ c.in-Ok.ensures.stays c.in-Ok.ensures.asked (c.requires.lent 0 c.args.at c.requires.place)
+    (λ contents told. tested_at g.T.TreeRow.layout c.args.tree.first c.args.tree.rows contents c.read_place.new.buf 0 c.args.at c.requires.place
+    (c.in-Ok.ensures.bytes contents told) c.in-Ok-row_for.ensures.page (λ h. absurd (omega (arith, h))))
 
-pub returns-in-Err-row_for-clause-damaged : goal.returns-in-Err-row_for-clause-damaged
-returns-in-Err-row_for-clause-damaged g c bytes told page e =
-    damaged_at g.T.TreeRow.layout c.args.tree.first c.args.tree.rows _ bytes c.read_place.new.buf 0 c.args.at c.in-Ok.page page
-    told c.in-Ok.ensures.bytes c.requires.place c.in-Ok.ensures.number e (λ well. c.in-Err-row_for.ensures.bad well.page well.readable)
-
-pub returns-in-Ok-row_for-clause-tested : goal.returns-in-Ok-row_for-clause-tested
-returns-in-Ok-row_for-clause-tested g c contents told =
-    tested_at g.T.TreeRow.layout c.args.tree.first c.args.tree.rows contents c.read_place.new.buf 0 c.args.at c.requires.place
-    (c.in-Ok.ensures.bytes contents told) c.in-Ok-row_for.ensures.page (λ h. absurd (omega (arith, h)))
+pub returns-in-Err-row_for-clause-reads : goal.returns-in-Err-row_for-clause-reads
+returns-in-Err-row_for-clause-reads g c =
+    reads-bad c.in-Ok.page _ c.in-Ok.page c.in-Ok.ensures.number c.in-Ok.ensures.stays c.in-Ok.ensures.asked (c.requires.lent 0 c.args.at c.requires.place)
+    (λ bytes told. damaged_at g.T.TreeRow.layout c.args.tree.first c.args.tree.rows _ bytes c.read_place.new.buf 0 c.args.at c.in-Ok.page
+    told c.in-Ok.ensures.bytes c.requires.place c.in-Ok.ensures.number (λ well. c.in-Err-row_for.ensures.bad well.page well.readable))

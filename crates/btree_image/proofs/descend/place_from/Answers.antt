@@ -1,10 +1,9 @@
-use Rattle.std.proofs.Common.{◌≡◌, ◌+◌, arith, ◌∙◌, ap, drop, []}
+use Rattle.std.proofs.Common.{◌∙◌, ap, drop, []}
 use Rattle.std.specs.Prelude.{slice_index_or}
 use Rattle.std.specs.Int.{from_be_bytes, w32}
-use Rattle.std.proofs.Math.Numerals.{add-one}
-use Rattle.page_codec.specs.Page.{IsPage, row_count, rows_on}
+use Rattle.page_codec.specs.Page.{rows_on}
 use Rattle.btree_image.proofs.Widths.{leaf_room, inner_room}
-use Rattle.btree_image.proofs.Told.{in_page, child-told, some_rows, place-inside}
+use Rattle.btree_image.proofs.Told.{in_page, child-told}
 use Rattle.btree_image.proofs.Found.{none_damaged, outside-damaged, some_place}
 use Rattle.btree_image.proofs.descend.place_from.Goals as goal
 
@@ -18,20 +17,8 @@ returns-in-Ok-clause-told g c list at is some e fits shows =
     let found = c.in-Ok.ensures.child in
     let there = found.3 _ (in_page l k.key_order a b c.args.rows list is key c.args.below at e c.args.page.now shows) in
     let child = child-told l k.key_order a b c.args.rows list is key c.args.below at e c.args.page.now shows some fits in
-    let inside = place-inside l k.key_order a b c.args.rows list is key c.args.below in
-    some_place c.place_below.result _ _ c.in-Ok.child _ c.place_below.ensures.place c.place_below.ensures.outside
-    (found.2 ∙ (ap (λ i. from_be_bytes w32 (drop l.key_width (slice_index_or (rows_on c.args.page.now) i []))) there ∙ child)) inside
-
-pub returns-in-Err-clause-told : goal.returns-in-Err-clause-told
-returns-in-Err-clause-told g c list at is some e fits shows =
-    let l = g.T.TreeRow.layout in
-    let k = g.met.T.TreeRow.kinds in
-    let a = leaf_room l _ _ _ k in
-    let b = inner_room l _ _ _ k in
-    let rows = some_rows l k.key_order a b c.args.rows list is c.args.key.now c.args.below at e c.args.page.now shows in
-    let page : IsPage l.inner (c.args.below + 1) c.args.page.now = rw add-one shows.page in
-    let none : row_count c.args.page.now ≡ 0 = c.in-Err.ensures.bad page in
-    absurd (omega arith)
+    some_place c.place_below.result _ c.in-Ok.child _ c.place_below.ensures.place
+    (found.2 ∙ (ap (λ i. from_be_bytes w32 (drop l.key_width (slice_index_or (rows_on c.args.page.now) i []))) there ∙ child))
 
 pub returns-in-Ok-clause-damaged : goal.returns-in-Ok-clause-damaged
 returns-in-Ok-clause-damaged g c =

@@ -1,19 +1,19 @@
 use Rattle.std.specs.Prelude.{IfSome}
 use Rattle.page_codec.specs.Page.{IsPage, row_count}
-use Rattle.std.proofs.Common.{subst, ◌≡◌, suc, ◌+◌, ◌<◌, ◌^◌, arith, sym, ◌∙◌, Some, None}
+use Rattle.std.proofs.Common.{subst, ◌≡◌, suc, ◌+◌, ◌<◌, ◌^◌, arith, rules}
 use Rattle.std.proofs.Math.Numerals.{add-one}
 use Rattle.tree_shape.specs.Shape.{level_start}
 use Rattle.btree_image.specs.Image.{shape_of}
 use Rattle.btree_image.specs.Descent.{place_of_key}
 use Rattle.btree_image.proofs.Widths.{leaf_room, inner_room}
 use Rattle.tree_shape.specs.Laws.Places.{place_below}
-use Rattle.btree_image.proofs.Told.{place-inside, shown_read, tested_at}
-use Rattle.dev_model.specs.Laws.Trail.{went-failed}
+use Rattle.btree_image.proofs.Told.{place-inside, shown_read, tested_at, damaged_at}
+use Rattle.dev_model.specs.Laws.Trail.{reads-refused, reads-given, reads-bad}
 use Rattle.btree_image.proofs.descend.step.Goals as goal
 
-pub returns-in-Err-clause-went : goal.returns-in-Err-clause-went
-returns-in-Err-clause-went g c =
-    went-failed (g.P.Pages.asked) (g.met.P.Pages.asked_then) (g.P.Pages.lent c.args.pages.now) _ _ _ (rw add-one at c.in-Err.ensures.asked) (c.requires.lent (suc c.args.below) c.args.at c.requires.place)
+pub returns-in-Err-clause-reads : goal.returns-in-Err-clause-reads
+returns-in-Err-clause-reads g c =
+    reads-refused _ _ c.in-Err.ensures.stays (rw add-one at c.in-Err.ensures.asked) (c.requires.lent (suc c.args.below) c.args.at c.requires.place)
 
 pub returns-in-Some-clause-told : goal.returns-in-Some-clause-told
 returns-in-Some-clause-told g c list shown some e =
@@ -26,27 +26,17 @@ returns-in-Some-clause-told g c list shown some e =
     let n = g.met.P.Pages.lent_fits c.args.pages.now _ (c.requires.lent c.args.below (place_of_key l list c.args.key.now c.args.below) next) in
     let fits : level_start (shape_of l c.args.tree.rows) c.args.below + place_of_key l list c.args.key.now c.args.below < 2 ^ 32 = omega (arith, n) in
     let shows = shown_read l list c.args.tree.first c.args.tree.rows _ shown c.read_place.new.buf (suc c.args.below) c.args.at c.requires.place (rw add-one at c.in-Ok.ensures.bytes) in
-    let child = c.place_from.ensures.told list c.args.at shown.is some e fits shows in
-    let both : Some c.in-Some.place ≡ Some (place_of_key l list c.args.key.now c.args.below) = sym c.in-Some.is ∙ child in
-    cc both
+    subst (λ found. IfSome found (λ place. place ≡ place_of_key l list c.args.key.now c.args.below)) c.in-Some.is (c.place_from.ensures.told list c.args.at shown.is some e fits shows)
 
-pub returns-in-None-clause-told : goal.returns-in-None-clause-told
-returns-in-None-clause-told g c list shown some e =
-    let l = g.T.TreeRow.layout in
-    let k = g.met.T.TreeRow.kinds in
-    let a = leaf_room l _ _ _ k in
-    let b = inner_room l _ _ _ k in
-    let inside = place-inside l k.key_order a b c.args.tree.rows list shown.is c.args.key.now c.args.below in
-    let next = place_below (shape_of l c.args.tree.rows) c.args.below c.args.at _ c.requires.place inside in
-    let n = g.met.P.Pages.lent_fits c.args.pages.now _ (c.requires.lent c.args.below (place_of_key l list c.args.key.now c.args.below) next) in
-    let fits : level_start (shape_of l c.args.tree.rows) c.args.below + place_of_key l list c.args.key.now c.args.below < 2 ^ 32 = omega (arith, n) in
-    let shows = shown_read l list c.args.tree.first c.args.tree.rows _ shown c.read_place.new.buf (suc c.args.below) c.args.at c.requires.place (rw add-one at c.in-Ok.ensures.bytes) in
-    let child = c.place_from.ensures.told list c.args.at shown.is some e fits shows in
-    let both : None ≡ Some (place_of_key l list c.args.key.now c.args.below) = sym c.in-None.is ∙ child in
-    cc both
-
-pub returns-in-Some-clause-tested : goal.returns-in-Some-clause-tested
-returns-in-Some-clause-tested g c contents told =
-    tested_at g.T.TreeRow.layout c.args.tree.first c.args.tree.rows contents c.read_place.new.buf (suc c.args.below) c.args.at c.requires.place
+pub returns-in-Some-clause-reads : goal.returns-in-Some-clause-reads
+returns-in-Some-clause-reads g c =
+    reads-given _ _ c.in-Ok.ensures.stays (rw add-one at c.in-Ok.ensures.asked) (c.requires.lent (suc c.args.below) c.args.at c.requires.place)
+    (λ contents told. tested_at g.T.TreeRow.layout c.args.tree.first c.args.tree.rows contents c.read_place.new.buf (suc c.args.below) c.args.at c.requires.place
     ((rw add-one at c.in-Ok.ensures.bytes) contents told) (subst (λ place. IfSome place (λ _. IsPage g.T.TreeRow.layout.inner (suc c.args.below) c.read_place.new.buf)) c.in-Some.is c.place_from.ensures.page)
-    (λ _. subst (λ place. IfSome place (λ _. 0 < row_count c.read_place.new.buf)) c.in-Some.is c.place_from.ensures.some)
+    (λ _. subst (λ place. IfSome place (λ _. 0 < row_count c.read_place.new.buf)) c.in-Some.is c.place_from.ensures.some))
+
+pub returns-in-None-clause-reads : goal.returns-in-None-clause-reads
+returns-in-None-clause-reads g c =
+    reads-bad c.in-Ok.page _ c.in-Ok.page (rw add-one at c.in-Ok.ensures.number) c.in-Ok.ensures.stays (rw add-one at c.in-Ok.ensures.asked) (c.requires.lent (suc c.args.below) c.args.at c.requires.place)
+    (λ bytes told. damaged_at g.T.TreeRow.layout c.args.tree.first c.args.tree.rows _ bytes c.read_place.new.buf (suc c.args.below) c.args.at c.in-Ok.page
+    told (rw add-one at c.in-Ok.ensures.bytes) c.requires.place (rw add-one at c.in-Ok.ensures.number) (search rules))

@@ -93,7 +93,7 @@ loop-i-preserved g c =
       before = inv.before ++ follows.0;
       ends = joined inv.seen inv.before _ _ follows.0 _ inv.ends follows.1
           ∙ ap (λ n. (inv.before ++ follows.0) ++ in_hand l c.args.tree.first c.args.tree.rows 0 n) (sym c.in-Ok.ensures.next);
-      holds = λ some. subst (λ contents. IsInHand l c.args.tree.first c.args.tree.rows contents 0 (c.gather_run.new.hand.next - 1) c.gather_run.new.hand) inv.goes.same_contents (c.in-Ok.ensures.holds some);
+      holds = λ some. subst (λ contents. IsInHand l c.args.tree.first c.args.tree.rows contents 0 (c.gather_run.new.hand.next - 1) c.gather_run.new.hand) inv.goes.reads.same_contents (c.in-Ok.ensures.holds some);
       near = λ list shown ascend lead j d h inside.
           let behind : next ≤ suc (get_or c.args.runs.now j d).first = inv.near list shown ascend lead j d (omega arith) inside in
           let one = lead i range no_run (omega arith) in
@@ -110,7 +110,7 @@ loop-i-preserved g c =
           let near = inv.near list shown ascend lead i no_run (omega arith) (omega arith) in
           let one = lead i range no_run (omega arith) in
           let leads = subst (λ r. Leads l list 0 r run) (sym c.index-ranges-i.is) one in
-          let shown_now = subst (λ contents. IsShown l contents c.args.tree.first c.args.tree.rows list) (sym inv.goes.same_contents) shown in
+          let shown_now = subst (λ contents. IsShown l contents c.args.tree.first c.args.tree.rows list) (sym inv.goes.reads.same_contents) shown in
           let here = adds.2 list shown_now leads near in
           let rest = flat_map (rows_of l list) (drop (i + 1) c.args.ranges.now) in
           append_assoc inv.added adds.0 rest

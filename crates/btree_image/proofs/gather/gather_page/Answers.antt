@@ -1,4 +1,4 @@
-use Rattle.std.proofs.Common.{◌≡◌, ◌-◌, [], Some, None, arith, refl, sym, ◌∙◌, subst}
+use Rattle.std.proofs.Common.{◌≡◌, ◌-◌, [], Some, None, arith, sym, ◌∙◌, subst}
 use Rattle.std.proofs.lemmas.List.{append-nil}
 use Rattle.page_codec.specs.Page.{rows_on}
 use Rattle.btree_image.specs.Damage.{AllReadable}
@@ -8,7 +8,7 @@ use Rattle.btree_image.specs.Walks.{IsInHand, in_hand}
 use Rattle.btree_image.proofs.Widths.{leaf_room, inner_room}
 use Rattle.btree_image.proofs.Along.{goes-holding, goes-copied, on_ok}
 use Rattle.btree_image.proofs.Places.{hand-ends}
-use Rattle.btree_image.proofs.Told.{readable, shown_read, damaged_at}
+use Rattle.btree_image.proofs.Told.{shown_read, damaged_at}
 use Rattle.btree_image.proofs.Gathered.{copied, shown_rows, from-told, to-told, short}
 use Rattle.btree_image.proofs.gather.gather_page.Goals as goal
 
@@ -27,9 +27,8 @@ returns-clause-goes g c =
     goes-copied c.push_rows.result (in_hand l c.args.tree.first c.args.tree.rows 0 c.args.hand.now.next) _ c.reach.new.hand.page (AllReadable l (rows_on c.reach.new.hand.buf) → ⊥)
     c.push_rows.ensures.fault (goes-holding None _ _ c.in-Ok.ensures.goes)
     (hand-ends l c.args.tree.first c.args.tree.rows 0 c.args.hand.now.next c.args.at c.reach.new.hand.next c.reach.new.hand.page c.in-Ok.ensures.next held.number)
-    (λ bad bytes told. damaged_at l c.args.tree.first c.args.tree.rows _ bytes c.reach.new.hand.buf 0 at c.reach.new.hand.page c.reach.new.hand.page
-    told held.told place held.number refl (λ well. bad well.readable))
-    (λ bad list shown. bad (readable l list shown.is.stored at _ (shown_read l list c.args.tree.first c.args.tree.rows _ shown c.reach.new.hand.buf 0 at place held.told).all))
+    (λ bad bytes told. damaged_at l c.args.tree.first c.args.tree.rows _ bytes c.reach.new.hand.buf 0 at c.reach.new.hand.page
+    told held.told place held.number (λ well. bad well.readable))
 
 pub returns-clause-adds : goal.returns-clause-adds
 returns-clause-adds g c =
@@ -43,7 +42,7 @@ returns-clause-adds g c =
       λ list shown leads near from before.
           let next = c.in-Ok.ensures.next in
           let here : c.reach.new.hand.next - 1 ≡ c.args.at = omega arith in
-          let held = subst (λ n. IsInHand l c.args.tree.first c.args.tree.rows (g.P.Pages.contents c.args.pages.now) 0 n c.reach.new.hand) here c.in-Ok.ensures.in_hand in
+          let held = subst (λ n. IsInHand l c.args.tree.first c.args.tree.rows (g.P.Pages.lending c.args.pages.now).contents 0 n c.reach.new.hand) here c.in-Ok.ensures.in_hand in
           let place : IsPlace (shape_of l c.args.tree.rows) 0 c.args.at = record { inside = held.inside; up_to_root = λ j h. absurd (omega arith) } in
           let bytes = c.reach.new.hand.buf in
           let shows = shown_read l list c.args.tree.first c.args.tree.rows _ shown bytes 0 c.args.at place held.told in

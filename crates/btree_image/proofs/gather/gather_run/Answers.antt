@@ -58,11 +58,11 @@ loop-at-preserved g c =
       from = let from = inv.from in omega arith;
       most = let test = c.loop-at-test.true in omega arith;
       next = c.in-Ok.ensures.next ∙ (ap (λ n. max n (suc c.loop-at.at)) inv.next ∙ behind-step c.args.hand.now.next c.args.run.first c.loop-at.at inv.from);
-      holds = λ some. subst (λ contents. IsInHand l c.args.tree.first c.args.tree.rows contents 0 (c.gather_page.new.hand.next - 1) c.gather_page.new.hand) inv.goes.same_contents (c.in-Ok.ensures.holds some);
+      holds = λ some. subst (λ contents. IsInHand l c.args.tree.first c.args.tree.rows contents 0 (c.gather_page.new.hand.next - 1) c.gather_page.new.hand) inv.goes.reads.same_contents (c.in-Ok.ensures.holds some);
       added = inv.added ++ adds.0;
       out = adds.1 ∙ (ap (λ xs. xs ++ adds.0) inv.out ∙ append_assoc c.args.out.now.items inv.added adds.0);
       told = λ list shown leads near.
-          let shown_now = subst (λ contents. IsShown l contents c.args.tree.first c.args.tree.rows list) (sym inv.goes.same_contents) shown in
+          let shown_now = subst (λ contents. IsShown l contents c.args.tree.first c.args.tree.rows list) (sym inv.goes.reads.same_contents) shown in
           let most = behind-most c.args.hand.now.next c.args.run.first c.loop-at.at in
           let next = inv.next in
           let from = inv.from in

@@ -77,7 +77,7 @@ loop-i-preserved g c =
           (goes-same (ap (λ (r : Run). map number (places_in next r.first r.end)) run-is) c.in-Ok.ensures.goes);
       left = ap (λ n. (inv.seen ++ map number (places_in next run.first run.end)) ++ map number (walk n (drop (i + 1) c.args.runs.now))) next-is
           ∙ pages-next number inv.seen _ _ _ _ inv.left (walk-next next i c.args.runs.now no_run (omega arith));
-      holds = λ some. subst (λ contents. IsInHand l c.args.tree.first c.args.tree.rows contents (suc c.args.below) (c.narrow_run.new.hand.next - 1) c.narrow_run.new.hand) inv.goes.same_contents (c.in-Ok.ensures.holds some);
+      holds = λ some. subst (λ contents. IsInHand l c.args.tree.first c.args.tree.rows contents (suc c.args.below) (c.narrow_run.new.hand.next - 1) c.narrow_run.new.hand) inv.goes.reads.same_contents (c.in-Ok.ensures.holds some);
       count = length-set c.loop-i.runs i c.in-Ok.narrowed ∙ inv.count;
       same = λ j d h. get_or-set_other c.loop-i.runs i j c.in-Ok.narrowed d (λ e. omega arith) ∙ inv.same j d (omega arith);
       inside = one-more (λ j (r : Run). r.end ≤ level_size (shape_of l c.args.tree.rows) c.args.below) c.loop-i.runs i c.in-Ok.narrowed inside inv.inside c.in-Ok.ensures.inside;
@@ -97,7 +97,7 @@ loop-i-preserved g c =
           let one = lead i range no_run (omega arith) in
           let leads = subst (λ r. Leads l list (suc c.args.below) r (get_or c.loop-i.runs i no_run)) (sym c.index-ranges-i.is) (subst (Leads l list (suc c.args.below) (get_or c.args.ranges.now i range)) (sym run-is) one) in
           let ordered = subst (λ (r : g.row.T-Key.Denot × g.row.T-Key.Denot). l.order r.0 r.1 ≢ Greater) (sym c.index-ranges-i.is) (ascend.each i range (omega arith)) in
-          let shown_now = subst (λ contents. IsShown l contents c.args.tree.first c.args.tree.rows list) (sym inv.goes.same_contents) shown in
+          let shown_now = subst (λ contents. IsShown l contents c.args.tree.first c.args.tree.rows list) (sym inv.goes.reads.same_contents) shown in
           let near_now : next ≤ suc (get_or c.loop-i.runs i no_run).first = subst (λ (r : Run). next ≤ suc r.first) (sym run-is) near in
           let here = c.in-Ok.ensures.told list shown_now leads ordered near_now in
           λ j other d h. one-more (λ j r. (other : g.row.T-Key.Denot × g.row.T-Key.Denot) → r ≡ run_of l list c.args.below (get_or c.args.ranges.now j other)) c.loop-i.runs i c.in-Ok.narrowed inside

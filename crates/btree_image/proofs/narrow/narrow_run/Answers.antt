@@ -77,7 +77,7 @@ pub returns-clause-holds : goal.returns-clause-holds
 returns-clause-holds g c some =
     let l = g.T.TreeRow.layout in
     let goes = c.in-Ok.ensures.goes in
-    subst (λ contents. IsInHand l c.args.tree.first c.args.tree.rows contents (suc c.args.below) (c.pass.new.hand.next - 1) c.pass.new.hand) goes.same_contents
+    subst (λ contents. IsInHand l c.args.tree.first c.args.tree.rows contents (suc c.args.below) (c.pass.new.hand.next - 1) c.pass.new.hand) goes.reads.same_contents
     (rw add-one at (c.in-Ok-pass.ensures.holds some))
 
 pub returns-clause-told : goal.returns-clause-told
@@ -91,9 +91,9 @@ returns-clause-told g c list shown leads ordered near =
     let passed = c.in-Ok-pass.ensures.next ∙ behind-some c.reach.new.hand.next c.args.run.first c.args.run.end some in
     let last : c.pass.new.hand.next ≡ c.args.run.end = omega arith in
     let goes = c.in-Ok.ensures.goes in
-    let right = subst (λ contents. IsInHand l c.args.tree.first c.args.tree.rows contents (suc c.args.below) (c.pass.new.hand.next - 1) c.pass.new.hand) goes.same_contents
+    let right = subst (λ contents. IsInHand l c.args.tree.first c.args.tree.rows contents (suc c.args.below) (c.pass.new.hand.next - 1) c.pass.new.hand) goes.reads.same_contents
     (rw add-one at (c.in-Ok-pass.ensures.holds (omega arith))) in
-    run-told l k.key_order (leaf_room l _ _ _ k) (inner_room l _ _ _ k) c.args.tree.rows list shown.is c.args.tree.first (g.P.Pages.contents c.args.pages.now) shown
+    run-told l k.key_order (leaf_room l _ _ _ k) (inner_room l _ _ _ k) c.args.tree.rows list shown.is c.args.tree.first (g.P.Pages.lending c.args.pages.now).contents shown
     c.args.below c.requires.up_to_root c.args.range.now c.args.run leads some
     (c.reach.new.hand.next - 1) c.reach.new.hand (rw add-one at c.in-Ok.ensures.in_hand) (omega arith)
     (c.pass.new.hand.next - 1) c.pass.new.hand right (omega arith)

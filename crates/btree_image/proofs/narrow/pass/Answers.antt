@@ -34,7 +34,7 @@ loop-at-preserved g c =
       from = let from = inv.from in omega arith;
       most = let test = c.loop-at-test.true in omega arith;
       next = c.in-Ok.ensures.next ∙ (ap (λ n. max n (suc c.loop-at.at)) inv.next ∙ behind-step c.args.hand.now.next c.args.run.first c.loop-at.at inv.from);
-      holds = λ some. subst (λ contents. IsInHand l c.args.tree.first c.args.tree.rows contents c.args.level (c.reach.new.hand.next - 1) c.reach.new.hand) inv.goes.same_contents c.in-Ok.ensures.in_hand;
+      holds = λ some. subst (λ contents. IsInHand l c.args.tree.first c.args.tree.rows contents c.args.level (c.reach.new.hand.next - 1) c.reach.new.hand) inv.goes.reads.same_contents c.in-Ok.ensures.in_hand;
     }
 
 pub returns-clause-goes : goal.returns-clause-goes

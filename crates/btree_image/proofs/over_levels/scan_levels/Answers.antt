@@ -7,10 +7,12 @@ use Rattle.btree_image.specs.Image.{shape_of}
 use Rattle.btree_image.specs.Pages.{page_number}
 use Rattle.btree_image.specs.Shown.{IsShown}
 use Rattle.btree_image.specs.Visited.{met_below, visited_pages}
-use Rattle.btree_image.specs.Walks.{fault_of, walk, AllLead}
+use Rattle.dev_model.specs.Asked.{fault_of}
+use Rattle.btree_image.specs.Walks.{walk, AllLead}
 use Rattle.btree_image.proofs.Widths.{leaf_room, inner_room}
 use Rattle.tree_shape.specs.Laws.Places.{root_unique}
-use Rattle.btree_image.proofs.Along.{goes-on, goes-same, goes-nowhere, ok_always, along-whole}
+use Rattle.dev_model.specs.Laws.Trail.{along-whole}
+use Rattle.btree_image.proofs.Along.{goes-on, goes-same, goes-nowhere, ok_always}
 use Rattle.btree_image.proofs.Places.{place-one}
 use Rattle.btree_image.proofs.Once.{still-once, still-above}
 use Rattle.btree_image.proofs.Visits.{length-ones, ends-ones, visits-none, rows-none, visits-root, leads-root, leads-runs, visits-next, visits-last}
@@ -90,12 +92,12 @@ loop-level-preserved g c =
       above = still-above l c.args.tree.first c.args.tree.rows (suc below) c.loop-level.runs ends inv.seen above;
       lead = λ list shown ascend.
           let lead = subst (λ n. AllLead l list n c.args.ranges.now c.loop-level.runs) e (inv.lead list shown ascend) in
-          let shown_now = subst (λ contents. IsShown l contents c.args.tree.first c.args.tree.rows list) (sym inv.goes.same_contents) shown in
+          let shown_now = subst (λ contents. IsShown l contents c.args.tree.first c.args.tree.rows list) (sym inv.goes.reads.same_contents) shown in
           leads-runs l k.key_order (leaf_room l _ _ _ k) (inner_room l _ _ _ k) c.args.tree.rows list shown.is c.args.tree.first c.args.ranges.now c.narrow.new.runs below
           (c.in-Ok.ensures.told list shown_now ascend lead);
       left = λ list root shown ascend at_root.
           let lead = subst (λ n. AllLead l list n c.args.ranges.now c.loop-level.runs) e (inv.lead list shown ascend) in
-          let shown_now = subst (λ contents. IsShown l contents c.args.tree.first c.args.tree.rows list) (sym inv.goes.same_contents) shown in
+          let shown_now = subst (λ contents. IsShown l contents c.args.tree.first c.args.tree.rows list) (sym inv.goes.reads.same_contents) shown in
           visits-next l k.key_order (leaf_room l _ _ _ k) (inner_room l _ _ _ k) c.args.tree.rows list shown.is c.args.tree.first c.args.ranges.now ascend inv.seen now _ below c.narrow.new.runs same
           (c.in-Ok.ensures.told list shown_now ascend lead)
           (subst (λ n. inv.seen ++ (map (page_number l c.args.tree.first c.args.tree.rows n) (walk 0 c.loop-level.runs) ++ met_below l list c.args.ranges.now c.args.tree.first n)
@@ -153,6 +155,6 @@ returns-clause-adds g c =
       adds.0,
       adds.1,
       λ list shown ascend.
-          adds.2 list (subst (λ contents. IsShown l contents c.args.tree.first c.args.tree.rows list) (sym inv.goes.same_contents) shown) ascend
+          adds.2 list (subst (λ contents. IsShown l contents c.args.tree.first c.args.tree.rows list) (sym inv.goes.reads.same_contents) shown) ascend
           (subst (λ n. AllLead l list n c.args.ranges.now c.loop-level.runs) e (inv.lead list shown ascend)),
     )

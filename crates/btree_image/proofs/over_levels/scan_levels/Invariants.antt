@@ -15,12 +15,12 @@ invariant-loop-level g l = record {
   count : length l.runs ≡ length l.ranges;
   inside : All (λ run. run.end ≤ level_size (shape_of g.T.TreeRow.layout l.tree.rows) l.level) l.runs;
   seen : List ℕ;
-  goes : GoesOn g.T.TreeRow.layout l.tree.first l.tree.rows g.P.Pages.lent g.P.Pages.contents g.P.Pages.fault_count g.P.Pages.asked l.initial.pages l.pages None [] seen;
+  goes : GoesOn g.T.TreeRow.layout l.tree.first l.tree.rows g.P.Pages.lending g.P.Pages.asked l.initial.pages l.pages None [] seen;
   once : AllPairs (λ a b. a ≢ b) seen;
   above : All (λ page. l.tree.first + level_start (shape_of g.T.TreeRow.layout l.tree.rows) (suc l.level) ≤ page) seen;
-  lead : (list : List g.row.T.Denot) → IsShown g.T.TreeRow.layout (g.P.Pages.contents l.initial.pages) l.tree.first l.tree.rows list → AreRanges g.T.TreeRow.layout.order l.ranges
+  lead : (list : List g.row.T.Denot) → IsShown g.T.TreeRow.layout (g.P.Pages.lending l.initial.pages).contents l.tree.first l.tree.rows list → AreRanges g.T.TreeRow.layout.order l.ranges
       → AllLead g.T.TreeRow.layout list l.level l.ranges l.runs;
-  left : (list : List g.row.T.Denot) (root : ℕ) → IsShown g.T.TreeRow.layout (g.P.Pages.contents l.initial.pages) l.tree.first l.tree.rows list → AreRanges g.T.TreeRow.layout.order l.ranges
+  left : (list : List g.row.T.Denot) (root : ℕ) → IsShown g.T.TreeRow.layout (g.P.Pages.lending l.initial.pages).contents l.tree.first l.tree.rows list → AreRanges g.T.TreeRow.layout.order l.ranges
       → IsRoot (shape_of g.T.TreeRow.layout l.tree.rows) root
       → seen ++ (map (page_number g.T.TreeRow.layout l.tree.first l.tree.rows l.level) (walk 0 l.runs) ++ met_below g.T.TreeRow.layout list l.ranges l.tree.first l.level)
       ≡ visited_pages g.T.TreeRow.layout list l.ranges l.tree.first root;

@@ -22,6 +22,11 @@ returns-clause-asked g c = (
       (g.met.D.Device.clock_told c.args.self.now.device.now) (g.met.D.Device.clock_told c.read.new.self),
 )
 
-pub returns-clause-same_contents : goal.returns-clause-same_contents
-returns-clause-same_contents g c =
-    contents-read c.args.self.now.extents.now _ _ c.read.result (g.D.Device.seen c.args.self.now.device.now).story (g.D.Device.seen c.read.new.self).story c.read.ensures.made.told
+pub returns-clause-stays : goal.returns-clause-stays
+returns-clause-stays g c =
+    let cause = c.read.ensures.made.cause in
+    record {
+      same_lent = refl;
+      same_contents = contents-read c.args.self.now.extents.now _ _ c.read.result (g.D.Device.seen c.args.self.now.device.now).story (g.D.Device.seen c.read.new.self).story c.read.ensures.made.told;
+      cause = cause;
+    }
