@@ -1,5 +1,4 @@
 pub mod Everything
-pub mod Joined
 pub mod Memory
 pub mod Passed
 pub mod Rebuilt

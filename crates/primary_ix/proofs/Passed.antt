@@ -1,5 +1,6 @@
 -- Lookups and lists of components, one component at a time.
-use Rattle.std.proofs.Common.{◌≡◌, ℕ, suc, ◌<◌, ◌≤◌, All, true, false, List, [], ◌∷◌, ◌++◌, length, drop, drop-cons, get_or, zero, arith, Option, Some, None, is_some, refl, sym, ◌∙◌, ap, if◌then◌else◌}
+use Rattle.std.specs.Prelude.{Any}
+use Rattle.std.proofs.Common.{Bool, append_assoc, ◌≡◌, ℕ, suc, ◌<◌, ◌≤◌, true, false, List, [], ◌∷◌, ◌++◌, length, drop, drop-cons, get_or, zero, arith, Option, Some, None, is_some, refl, sym, ◌∙◌, ap, if◌then◌else◌}
 use Rattle.std.proofs.lemmas.List.{append-nil}
 use Rattle.std.specs.Option.{option_or}
 use Rattle.btree_image.specs.Descent.{descent}
@@ -8,8 +9,14 @@ use Rattle.primary_ix.specs.declared.component.PrimComp.{PrimComp}
 use Rattle.primary_ix.specs.declared.rows.PrimRow.{PrimRow}
 use Rattle.primary_ix.specs.Rows.{prim_layout}
 use Rattle.primary_ix.specs.Reading.{prim_reading}
+use Rattle.dev_model.specs.declared.page_faults.PageFault.{PageFault}
+use Rattle.dev_model.specs.Lending.{Lending}
+use Rattle.dev_model.specs.Asked.{GoesAlong}
+use Rattle.dev_model.specs.Laws.Trail.{reads-on, reads-as, along-then, along-short}
+use Rattle.btree_image.specs.Damage.{IsDamaged}
 use Rattle.btree_image.specs.Tested.{IsTested}
-use Rattle.primary_ix.specs.Pages.{IsTestedIn}
+use Rattle.btree_image.specs.Reading.{ReadsTree}
+use Rattle.primary_ix.specs.OnPages.{ReadsAmong}
 use Rattle.primary_ix.specs.Lookups.{lookup_pages}
 
 pub same_default : {X : Type 0} (xs : List X) (i : ℕ) (d e : X) → i < length xs → get_or xs i d ≡ get_or xs i e
@@ -82,7 +89,24 @@ pub way-end : (key : ℕ) (comps : List PrimComp) (disk : List (List PrimRow)) (
 unfolding lookup_pages
 way-end key comps disk roots i seen h = ap (λ cs. seen ++ lookup_pages key cs (drop i disk) (drop i roots)) (past_end comps i h) ∙ append-nil seen
 
--- a page of one component
-pub tested_in : (comps : List PrimComp) (comp : PrimComp) (i : ℕ) (contents : ℕ → List ℕ) (pages : List ℕ) → i < length comps
-    → All (IsTested prim_layout (get_or comps i comp).tree.first (get_or comps i comp).tree.rows contents) pages → All (IsTestedIn comps contents) pages
-tested_in comps comp i contents pages inside tested k page h = (i, get_or comps i comp, inside, same_default comps i (get_or comps i comp) comp inside, tested k page h)
+-- what is so of one component
+any_at : (P : PrimComp → Type 0) (comps : List PrimComp) (comp : PrimComp) (i : ℕ) → i < length comps → P (get_or comps i comp) → Any P comps
+any_at P comps comp i inside p = (i, get_or comps i comp, inside, same_default comps i (get_or comps i comp) comp inside, p)
+
+module _ {S : Type 0} {lending : S → Lending} {asked : S → S → List (ℕ × Bool) → Type 0} (comps : List PrimComp) (comp : PrimComp) (i : ℕ) (inside : i < length comps) where
+  -- a reader of components that goes on to the next one
+  pub reads-next : ((first second third : S) (xs ys : List (ℕ × Bool)) → asked first second xs → asked second third ys → asked first third (xs ++ ys))
+      → {first second third : S} (fault : Option PageFault) {seen more : List ℕ} → ReadsAmong comps lending asked first second None seen
+      → ReadsTree prim_layout (get_or comps i comp).tree.first (get_or comps i comp).tree.rows lending asked second third fault [] more → ReadsAmong comps lending asked first third fault (seen ++ more)
+  reads-next onward fault a b =
+      reads-on onward fault a
+      (reads-as fault (λ contents page bad. any_at (λ c. IsDamaged prim_layout c.tree.first c.tree.rows contents page) comps comp i inside bad)
+      (λ contents page tested. any_at (λ c. IsTested prim_layout c.tree.first c.tree.rows contents page) comps comp i inside tested) b)
+
+-- its way, where the part for that component was gone
+pub way-refused : (fault : PageFault) (seen more part rest whole : List ℕ) → seen ++ (part ++ rest) ≡ whole → GoesAlong (Some fault) more part → GoesAlong (Some fault) (seen ++ more) whole
+way-refused fault seen more part rest whole e goes =
+    along-short fault (seen ++ more) (seen ++ part) rest whole (append_assoc seen part rest ∙ e) (along-then (Some fault) seen seen more part refl goes)
+
+pub way-gone : (seen more part rest whole : List ℕ) → seen ++ (part ++ rest) ≡ whole → more ≡ part → (seen ++ more) ++ rest ≡ whole
+way-gone seen more part rest whole e gone = append_assoc seen more rest ∙ ap (λ t. seen ++ (t ++ rest)) gone ∙ e

@@ -4,6 +4,7 @@ pub mod Damage
 pub mod Kinds
 pub mod Laws
 pub mod Lookups
+pub mod OnPages
 pub mod Pages
 pub mod Reading
 pub mod Records

@@ -1,13 +1,10 @@
 //! All records, in the order of their keys.
 
-ghost use Rattle.std.specs.Prelude.{◌≡◌, ℕ, ◌≤◌, ◌⊎◌, ◌++◌, [], List, All, map, OnOk, IfOk, IfErr, MatchResult, true};
-ghost use Rattle.dev_model.specs.Counts.{Rose};
-ghost use Rattle.dev_model.specs.Story.{WhereTold};
-ghost use Rattle.dev_model.specs.declared.page_faults.PageFault.TheVariants.{Failed, Damaged, OutOfMemory};
+ghost use Rattle.std.specs.Prelude.{◌≡◌, ℕ, ◌⊎◌, ◌++◌, [], List, All, map, IfOk, MatchResult, true};
+ghost use Rattle.dev_model.specs.declared.page_faults.PageFault.TheVariants.{Failed, OutOfMemory};
 ghost use Rattle.tree_shape.specs.Shape.{IsRoot};
-ghost use Rattle.dev_model.specs.Asked.{Went, GoesBy};
-ghost use Rattle.btree_image.specs.Damage.{IsDamaged};
-ghost use Rattle.btree_image.specs.Tested.{IsTested};
+ghost use Rattle.dev_model.specs.Asked.{fault_of, GoesBy};
+ghost use Rattle.btree_image.specs.Reading.{ReadsTree};
 ghost use Rattle.btree_image.specs.Image.{shape_of};
 ghost use Rattle.btree_image.specs.Shown.{IsShown};
 ghost use Rattle.btree_image.specs.Lent.{AreLent};
@@ -20,9 +17,8 @@ ghost use Rattle.table_model.specs.Table.{Table};
 ghost use Rattle.primary_ix.specs.Rows.{prim_layout};
 ghost use Rattle.primary_ix.specs.Reading.{prim_reading};
 ghost use Rattle.primary_ix.specs.Components.{AreShown};
-ghost use Rattle.primary_ix.specs.Roots.{AreRoots};
-ghost use Rattle.primary_ix.specs.Pages.{AreAllLent, IsTestedIn};
-ghost use Rattle.primary_ix.specs.Damage.{IsDamagedIn};
+ghost use Rattle.primary_ix.specs.Pages.{AreAllLent};
+ghost use Rattle.primary_ix.specs.OnPages.{ReadsAlong};
 ghost use Rattle.primary_ix.specs.AllPages.{all_pages};
 ghost use Rattle.primary_ix.specs.Scans.{all_keys};
 ghost use Rattle.primary_ix.specs.Wanted.{wanted_rows};
@@ -42,25 +38,16 @@ fn scan_whole<P: Pages>(
     pages: &mut P,
     comp: &PrimComp,
 ) -> Result<Vec<PrimRow>, PageFault>
-    requires { AreLent prim_layout (P.lent pages.old) comp.now.tree.first comp.now.tree.rows }
-    ensures same_lent { P.lent pages.new ≡ P.lent pages.old }
-    ensures same_contents { P.contents pages.new ≡ P.contents pages.old }
-    ensures later { P.fault_count pages.old ≤ P.fault_count pages.new }
-    ensures failed { IfErr result (λ fault. fault ≡ Failed → Rose (P.fault_count pages.old) (P.fault_count pages.new)) }
-    ensures damaged { WhereTold (P.contents pages.old) (λ contents. IfErr result (λ fault. (page : ℕ) → fault ≡ Damaged page → IsDamaged prim_layout comp.now.tree.first comp.now.tree.rows contents page)) }
+    requires { AreLent prim_layout (P.lending pages.old).lent comp.now.tree.first comp.now.tree.rows }
     ensures ascends { IfOk result (λ rows. Ascends prim_reading rows.items) }
-    ensures rows { (list : List PrimRow) → IsShown prim_layout (P.contents pages.old) comp.now.tree.first comp.now.tree.rows list
+    ensures rows { (list : List PrimRow) → IsShown prim_layout (P.lending pages.old).contents comp.now.tree.first comp.now.tree.rows list
         → MatchResult result (λ rows. rows.items ≡ list) (λ fault. (fault ≡ Failed) ⊎ (fault ≡ OutOfMemory)) }
-    ensures asked { (seen : List ℕ) × Went (P.lent pages.old) (P.asked pages.old pages.new) result seen
-        × OnOk result (WhereTold (P.contents pages.old) (λ contents. All (IsTested prim_layout comp.now.tree.first comp.now.tree.rows contents) seen))
-        × ((list : List PrimRow) (root : ℕ) → IsShown prim_layout (P.contents pages.old) comp.now.tree.first comp.now.tree.rows list → IsRoot (shape_of prim_layout comp.now.tree.rows) root
+    ensures reads { (seen : List ℕ) × ReadsTree prim_layout comp.now.tree.first comp.now.tree.rows P.lending P.asked pages.old pages.new (fault_of result) [] seen
+        × ((list : List PrimRow) (root : ℕ) → IsShown prim_layout (P.lending pages.old).contents comp.now.tree.first comp.now.tree.rows list → IsRoot (shape_of prim_layout comp.now.tree.rows) root
         → GoesBy result seen (visited_pages prim_layout list all_keys comp.now.tree.first root)) }
 {
     let mut rows = Vec::new(alloc);
-    match scan::<PrimRow, P>(pages, comp.tree, &[(0, MOST_KEY)], &mut rows) {
-        Ok(()) => {}
-        Err(fault) => return Err(fault),
-    }
+    scan::<PrimRow, P>(pages, comp.tree, &[(0, MOST_KEY)], &mut rows)?;
     rows.dedup_by(|next, last| next.key <= last.key);
     Ok(rows)
 }
@@ -72,29 +59,15 @@ fn scan_all<P: Pages>(
     comps: &[PrimComp],
     lists: &mut Vec<Vec<PrimRow>>,
 ) -> Result<(), PageFault>
-    requires lent { AreAllLent (P.lent pages.old) comps.now }
+    requires lent { AreAllLent (P.lending pages.old).lent comps.now }
     requires ascend { All (λ list. Ascends prim_reading list.items) lists.old.items }
-    ensures same_lent { P.lent pages.new ≡ P.lent pages.old }
-    ensures same_contents { P.contents pages.new ≡ P.contents pages.old }
-    ensures later { P.fault_count pages.old ≤ P.fault_count pages.new }
-    ensures failed { IfErr result (λ fault. fault ≡ Failed → Rose (P.fault_count pages.old) (P.fault_count pages.new)) }
-    ensures damaged { WhereTold (P.contents pages.old) (λ contents. IfErr result (λ fault. (page : ℕ) → fault ≡ Damaged page → IsDamagedIn comps.now contents page)) }
     ensures ascend { All (λ list. Ascends prim_reading list.items) lists.new.items }
-    ensures lists { (disk : List (List PrimRow)) → AreShown (P.contents pages.old) comps.now disk
+    ensures lists { (disk : List (List PrimRow)) → AreShown (P.lending pages.old).contents comps.now disk
         → MatchResult result (λ _. map (λ list. list.items) lists.new.items ≡ map (λ list. list.items) lists.old.items ++ disk) (λ fault. (fault ≡ Failed) ⊎ (fault ≡ OutOfMemory)) }
-    ensures asked { (seen : List ℕ) × Went (P.lent pages.old) (P.asked pages.old pages.new) result seen
-        × OnOk result (WhereTold (P.contents pages.old) (λ contents. All (IsTestedIn comps.now contents) seen))
-        × ((disk : List (List PrimRow)) (roots : List ℕ) → AreShown (P.contents pages.old) comps.now disk → AreRoots comps.now roots
-        → GoesBy result seen (all_pages comps.now roots)) }
+    ensures reads { ReadsAlong comps.now P.lending P.asked pages.old pages.new (fault_of result) (λ disk roots. all_pages comps.now roots) }
 {
     for comp in comps {
-        match scan_whole(alloc, pages, comp) {
-            Ok(rows) => match lists.push(rows) {
-                Ok(()) => {}
-                Err(_) => return Err(PageFault::OutOfMemory),
-            },
-            Err(fault) => return Err(fault),
-        }
+        lists.push(scan_whole(alloc, pages, comp)?)?;
     }
     Ok(())
 }
@@ -138,32 +111,16 @@ pub fn living_rows<P: Pages>(
     frozen: &Option<MemView<PrimRow>>,
     comps: &[PrimComp],
 ) -> Result<Vec<PrimRow>, PageFault>
-    requires { AreAllLent (P.lent pages.old) comps.now }
-    ensures same_lent { P.lent pages.new ≡ P.lent pages.old }
-    ensures same_contents { P.contents pages.new ≡ P.contents pages.old }
-    ensures later { P.fault_count pages.old ≤ P.fault_count pages.new }
-    ensures failed { IfErr result (λ fault. fault ≡ Failed → Rose (P.fault_count pages.old) (P.fault_count pages.new)) }
-    ensures damaged { WhereTold (P.contents pages.old) (λ contents. IfErr result (λ fault. (page : ℕ) → fault ≡ Damaged page → IsDamagedIn comps.now contents page)) }
+    requires { AreAllLent (P.lending pages.old).lent comps.now }
     ensures ascends { IfOk result (λ rows. Ascends prim_reading rows.items) }
-    ensures living { (disk : List (List PrimRow)) → AreShown (P.contents pages.old) comps.now disk
+    ensures living { (disk : List (List PrimRow)) → AreShown (P.lending pages.old).contents comps.now disk
         → MatchResult result (λ rows. IsMergeOf prim_reading (lists_of active.now frozen.now disk) true rows.items) (λ fault. (fault ≡ Failed) ⊎ (fault ≡ OutOfMemory)) }
-    ensures table { (disk : List (List PrimRow)) (table : Table) → AreShown (P.contents pages.old) comps.now disk
+    ensures table { (disk : List (List PrimRow)) (table : Table) → AreShown (P.lending pages.old).contents comps.now disk
         → Fits prim_reading (lists_of active.now frozen.now disk) (wanted_rows table)
         → IfOk result (λ rows. rows.items ≡ table_rows table) }
-    ensures asked { (seen : List ℕ) × Went (P.lent pages.old) (P.asked pages.old pages.new) result seen
-        × OnOk result (WhereTold (P.contents pages.old) (λ contents. All (IsTestedIn comps.now contents) seen))
-        × ((disk : List (List PrimRow)) (roots : List ℕ) → AreShown (P.contents pages.old) comps.now disk → AreRoots comps.now roots
-        → GoesBy result seen (all_pages comps.now roots)) }
+    ensures reads { ReadsAlong comps.now P.lending P.asked pages.old pages.new (fault_of result) (λ disk roots. all_pages comps.now roots) }
 {
-    let Ok(mut lists) = in_memory(alloc, active, frozen) else {
-        return Err(PageFault::OutOfMemory);
-    };
-    match scan_all(alloc, pages, comps, &mut lists) {
-        Ok(()) => {}
-        Err(fault) => return Err(fault),
-    }
-    match merged(alloc, &lists, true) {
-        Ok(rows) => Ok(rows),
-        Err(_) => Err(PageFault::OutOfMemory),
-    }
+    let mut lists = in_memory(alloc, active, frozen)?;
+    scan_all(alloc, pages, comps, &mut lists)?;
+    Ok(merged(alloc, &lists, true)?)
 }

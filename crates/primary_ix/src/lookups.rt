@@ -1,19 +1,16 @@
 //! The lookup of a key.
 
-ghost use Rattle.std.specs.Prelude.{◌≡◌, ◌≢◌, ℕ, ◌≤◌, List, All, OnOk, IfErr, IfSome, MatchResult, Ok};
-ghost use Rattle.dev_model.specs.Counts.{Rose};
-ghost use Rattle.dev_model.specs.Story.{WhereTold};
-ghost use Rattle.dev_model.specs.declared.page_faults.PageFault.TheVariants.{Failed, Damaged, OutOfMemory};
-ghost use Rattle.dev_model.specs.Asked.{Went, GoesBy};
+ghost use Rattle.std.specs.Prelude.{◌≡◌, ◌≢◌, List, IfErr, IfSome, MatchResult, Ok};
+ghost use Rattle.dev_model.specs.declared.page_faults.PageFault.TheVariants.{Failed, OutOfMemory};
+ghost use Rattle.dev_model.specs.Asked.{fault_of};
 ghost use Rattle.order_merge.specs.Entries.{newest_at};
 ghost use Rattle.order_merge.specs.Fitting.{Fits, living_at};
 ghost use Rattle.order_merge.specs.Views.{lists_of};
 ghost use Rattle.table_model.specs.Table.{Table};
 ghost use Rattle.primary_ix.specs.Reading.{prim_reading};
 ghost use Rattle.primary_ix.specs.Components.{AreShown};
-ghost use Rattle.primary_ix.specs.Roots.{AreRoots};
-ghost use Rattle.primary_ix.specs.Pages.{AreAllLent, IsTestedIn};
-ghost use Rattle.primary_ix.specs.Damage.{IsDamagedIn};
+ghost use Rattle.primary_ix.specs.Pages.{AreAllLent};
+ghost use Rattle.primary_ix.specs.OnPages.{ReadsAlong};
 ghost use Rattle.primary_ix.specs.Lookups.{lookup_pages, view_pages, in_memory};
 ghost use Rattle.primary_ix.specs.Wanted.{wanted_rows, table_row};
 ghost use Rattle.primary_ix.specs.Records.{record_in, record_of};
@@ -33,28 +30,16 @@ pub fn lookup_disk<P: Pages>(
     comps: &[PrimComp],
     key: u64,
 ) -> Result<Option<PrimRow>, PageFault>
-    requires { AreAllLent (P.lent pages.old) comps.now }
-    ensures same_lent { P.lent pages.new ≡ P.lent pages.old }
-    ensures same_contents { P.contents pages.new ≡ P.contents pages.old }
-    ensures later { P.fault_count pages.old ≤ P.fault_count pages.new }
-    ensures failed { IfErr result (λ fault. fault ≡ Failed → Rose (P.fault_count pages.old) (P.fault_count pages.new)) }
+    requires { AreAllLent (P.lending pages.old).lent comps.now }
     ensures needs_no_memory { IfErr result (λ fault. fault ≢ OutOfMemory) }
-    ensures damaged { WhereTold (P.contents pages.old) (λ contents. IfErr result (λ fault. (page : ℕ) → fault ≡ Damaged page → IsDamagedIn comps.now contents page)) }
-    ensures found { (disk : List (List PrimRow)) → AreShown (P.contents pages.old) comps.now disk
+    ensures found { (disk : List (List PrimRow)) → AreShown (P.lending pages.old).contents comps.now disk
         → MatchResult result (λ found. found ≡ newest_at prim_reading disk key) (λ fault. fault ≡ Failed) }
-    ensures asked { (seen : List ℕ) × Went (P.lent pages.old) (P.asked pages.old pages.new) result seen
-        × OnOk result (WhereTold (P.contents pages.old) (λ contents. All (IsTestedIn comps.now contents) seen))
-        × ((disk : List (List PrimRow)) (roots : List ℕ) → AreShown (P.contents pages.old) comps.now disk → AreRoots comps.now roots
-        → GoesBy result seen (lookup_pages key comps.now disk roots)) }
+    ensures reads { ReadsAlong comps.now P.lending P.asked pages.old pages.new (fault_of result) (λ disk roots. lookup_pages key comps.now disk roots) }
 {
     for comp in comps {
-        match find::<PrimRow, P>(pages, comp.tree, &key) {
-            Ok(found) => {
-                if found.is_some() {
-                    return Ok(found);
-                }
-            }
-            Err(fault) => return Err(fault),
+        let found = find::<PrimRow, P>(pages, comp.tree, &key)?;
+        if found.is_some() {
+            return Ok(found);
         }
     }
     Ok(None)
@@ -88,29 +73,18 @@ fn record_of(found: Option<PrimRow>) -> Option<Row>
 /// Where a list in memory has the key, no page is read; else the pages are those of `lookup_disk`. `Failed` where a page is
 /// not given, and `Damaged` where the page that was read last is none for its place. It takes no memory.
 pub fn lookup<P: Pages>(pages: &mut P, view: &PrimView, key: u64) -> Result<Option<Row>, PageFault>
-    requires { AreAllLent (P.lent pages.old) view.now.comps.items }
-    ensures same_lent { P.lent pages.new ≡ P.lent pages.old }
-    ensures same_contents { P.contents pages.new ≡ P.contents pages.old }
-    ensures later { P.fault_count pages.old ≤ P.fault_count pages.new }
-    ensures failed { IfErr result (λ fault. fault ≡ Failed → Rose (P.fault_count pages.old) (P.fault_count pages.new)) }
+    requires { AreAllLent (P.lending pages.old).lent view.now.comps.items }
     ensures needs_no_memory { IfErr result (λ fault. fault ≢ OutOfMemory) }
-    ensures damaged { WhereTold (P.contents pages.old) (λ contents. IfErr result (λ fault. (page : ℕ) → fault ≡ Damaged page → IsDamagedIn view.now.comps.items contents page)) }
     ensures memory { IfSome (in_memory view.now.active view.now.frozen key) (λ row. result ≡ Ok (record_in row)) }
-    ensures found { (disk : List (List PrimRow)) → AreShown (P.contents pages.old) view.now.comps.items disk
+    ensures found { (disk : List (List PrimRow)) → AreShown (P.lending pages.old).contents view.now.comps.items disk
         → MatchResult result (λ row. row ≡ record_of (living_at prim_reading (lists_of view.now.active view.now.frozen disk) key)) (λ fault. fault ≡ Failed) }
-    ensures table { (disk : List (List PrimRow)) (table : Table) → AreShown (P.contents pages.old) view.now.comps.items disk
+    ensures table { (disk : List (List PrimRow)) (table : Table) → AreShown (P.lending pages.old).contents view.now.comps.items disk
         → Fits prim_reading (lists_of view.now.active view.now.frozen disk) (wanted_rows table)
         → MatchResult result (λ row. row ≡ table_row table key) (λ fault. fault ≡ Failed) }
-    ensures asked { (seen : List ℕ) × Went (P.lent pages.old) (P.asked pages.old pages.new) result seen
-        × OnOk result (WhereTold (P.contents pages.old) (λ contents. All (IsTestedIn view.now.comps.items contents) seen))
-        × ((disk : List (List PrimRow)) (roots : List ℕ) → AreShown (P.contents pages.old) view.now.comps.items disk → AreRoots view.now.comps.items roots
-        → GoesBy result seen (view_pages key view.now.active view.now.frozen view.now.comps.items disk roots)) }
+    ensures reads { ReadsAlong view.now.comps.items P.lending P.asked pages.old pages.new (fault_of result) (λ disk roots. view_pages key view.now.active view.now.frozen view.now.comps.items disk roots) }
 {
     if let Some(row) = in_memory(view, key) {
         return Ok(row.row());
     }
-    match lookup_disk(pages, &view.comps, key) {
-        Ok(found) => Ok(record_of(found)),
-        Err(fault) => Err(fault),
-    }
+    Ok(record_of(lookup_disk(pages, &view.comps, key)?))
 }

@@ -8,8 +8,8 @@ use Rattle.btree_image.specs.Given.{rows_met}
 use Rattle.primary_ix.proofs.Whole.{all_keys-ranges, all_met, behind, kept-ascends, kept-stays}
 use Rattle.primary_ix.proofs.living.scan_whole.Goals as goal
 
-pub returns-in-Err-clause-rows : goal.returns-in-Err-clause-rows
-returns-in-Err-clause-rows g c list shown = c.in-Err.ensures.rows list shown all_keys-ranges
+pub returns-in_err-scan-clause-rows : goal.returns-in_err-scan-clause-rows
+returns-in_err-scan-clause-rows g c list shown = let told = c.in_err-scan.ensures.rows list shown all_keys-ranges in search rules
 
 pub returns-clause-ascends : goal.returns-clause-ascends
 returns-clause-ascends g c =
@@ -18,5 +18,5 @@ returns-clause-ascends g c =
 pub returns-clause-rows : goal.returns-clause-rows
 returns-clause-rows g c list shown =
     let scanned : c.scan.new.out.items ≡ list =
-    c.in-Ok.ensures.rows list shown all_keys-ranges ∙ ap (λ t. t ++ rows_met prim_layout list all_keys) c.new-rows.ensures.items ∙ all_met list shown.is.stored in
+    c.in_ok-scan.ensures.rows list shown all_keys-ranges ∙ ap (λ t. t ++ rows_met prim_layout list all_keys) c.new-rows.ensures.items ∙ all_met list shown.is.stored in
     dedup_same _ behind _ (λ x y b f' x' y' k. search rules) _ _ c.dedup_by.ensures.filtered ∙ kept-stays c.scan.new.out.items (subst (Ascends prim_reading) (sym scanned) shown.is.ascends) ∙ scanned

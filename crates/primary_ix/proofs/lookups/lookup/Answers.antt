@@ -1,10 +1,8 @@
-use Rattle.std.proofs.Common.{All, sym, ◌∙◌, ap, subst}
+use Rattle.std.proofs.Common.{None, sym, ◌∙◌, ap, subst}
 use Rattle.primary_ix.specs.Components.{AreShown}
 use Rattle.primary_ix.specs.Roots.{AreRoots}
-use Rattle.primary_ix.specs.Pages.{IsTestedIn}
-use Rattle.primary_ix.specs.Damage.{IsDamagedIn}
+use Rattle.primary_ix.specs.OnPages.{ReadsAmong}
 use Rattle.primary_ix.specs.Lookups.{lookup_pages}
-use Rattle.primary_ix.proofs.Joined.{went-ok_as}
 use Rattle.primary_ix.proofs.Memory.{record-memory, record-disk, record-table, view-disk}
 use Rattle.primary_ix.proofs.lookups.lookup.Goals as goal
 
@@ -16,29 +14,24 @@ pub returns-in-Some-clause-table : goal.returns-in-Some-clause-table
 returns-in-Some-clause-table g c disk table shown fits =
     record-table c.args.view.now.active c.args.view.now.frozen disk c.args.key table c.row.result (returns-in-Some-clause-found g c disk shown) fits
 
-pub returns-in-Ok-clause-found : goal.returns-in-Ok-clause-found
-returns-in-Ok-clause-found g c disk shown =
-    c.record_of.ensures ∙ record-disk c.args.view.now.active c.args.view.now.frozen disk c.args.key c.in-Ok.found c.in_default.ensures
-    (c.in-Ok.ensures.found disk (subst (λ comps. AreShown (g.P.Pages.contents c.args.pages.now) comps disk) (sym c.deref.ensures.value) shown))
+pub returns-clause-found : goal.returns-clause-found
+returns-clause-found g c disk shown =
+    c.record_of.ensures ∙ record-disk c.args.view.now.active c.args.view.now.frozen disk c.args.key c.in_ok-lookup_disk.field-0 c.in_default.ensures
+    (c.in_ok-lookup_disk.ensures.found disk (subst (λ comps. AreShown (g.P.Pages.lending c.args.pages.now).contents comps disk) (sym c.deref.ensures.value) shown))
 
-pub returns-in-Ok-clause-table : goal.returns-in-Ok-clause-table
-returns-in-Ok-clause-table g c disk table shown fits =
-    record-table c.args.view.now.active c.args.view.now.frozen disk c.args.key table c.record_of.result (returns-in-Ok-clause-found g c disk shown) fits
+pub returns-clause-table : goal.returns-clause-table
+returns-clause-table g c disk table shown fits =
+    record-table c.args.view.now.active c.args.view.now.frozen disk c.args.key table c.record_of.result (returns-clause-found g c disk shown) fits
 
-pub returns-in-Ok-clause-asked : goal.returns-in-Ok-clause-asked
-returns-in-Ok-clause-asked g c =
+pub returns-clause-reads : goal.returns-clause-reads
+returns-clause-reads g c =
     let view = c.args.view.now in
-    let asked = c.in-Ok.ensures.asked in
+    let there = c.in_ok-lookup_disk.ensures.reads in
     let same = c.deref.ensures.value in (
-      asked.0,
-      went-ok_as _ _ c.in-Ok.found c.record_of.result asked.0 asked.1,
-      λ contents told. subst (λ comps. All (IsTestedIn comps contents) asked.0) same (asked.2 contents told),
+      there.0,
+      subst (λ comps. ReadsAmong comps g.P.Pages.lending g.P.Pages.asked c.args.pages.now c.lookup_disk.new.pages None there.0) same there.1,
       λ disk roots shown at.
-          asked.3 disk roots (subst (λ comps. AreShown (g.P.Pages.contents c.args.pages.now) comps disk) (sym same) shown) (subst (λ comps. AreRoots comps roots) (sym same) at)
+          there.2 disk roots (subst (λ comps. AreShown (g.P.Pages.lending c.args.pages.now).contents comps disk) (sym same) shown) (subst (λ comps. AreRoots comps roots) (sym same) at)
           ∙ ap (λ comps. lookup_pages c.args.key comps disk roots) same
           ∙ view-disk c.args.key view.active view.frozen view.comps.items disk roots c.in_default.ensures,
     )
-
-pub returns-in-Err-clause-damaged : goal.returns-in-Err-clause-damaged
-returns-in-Err-clause-damaged g c contents told page is =
-    subst (λ comps. IsDamagedIn comps contents page) c.deref.ensures.value (c.in-Err.ensures.damaged contents told page is)
