@@ -9,13 +9,20 @@ use Rattle.dev_model.specs.Laws.Reads.{LeavesOnly-reads}
 use Rattle.dev_model.specs.Moments.{ReadsWithin}
 use Rattle.dev_model.specs.declared.page_faults.PageFault.{PageFault}
 use Rattle.dev_model.specs.declared.page_faults.PageFault.TheVariants.{Failed, Damaged, OutOfMemory}
-use Rattle.dev_model.specs.Asked.{Went, reads_of, given_but_last}
-use Rattle.device_pages.specs.Asked.{Asked, calls_of, pages_of}
+use Rattle.dev_model.specs.Asked.{Went, fault_of, reads_of, given_but_last, GoesBy, OnDamaged, OnGiven}
+use Rattle.device_pages.specs.Asked.{Seen, Asked, seen, calls_of, pages_of}
+use Rattle.device_pages.specs.Lending.{contents_of}
 use Rattle.device_pages.specs.Lent.{is_lent}
 use Rattle.device_pages.specs.Laws.Asked.{asked-none, story-asked, ok_calls-asked, pages_of-given, ReadsWithin-asked}
-use Rattle.store_state.specs.Lists.{Lists, extents_of}
+use Rattle.primary_ix.specs.Components.{AreShown}
+use Rattle.primary_ix.specs.Roots.{AreRoots}
+use Rattle.primary_ix.specs.Pages.{IsTestedIn}
+use Rattle.primary_ix.specs.Damage.{IsDamagedIn}
+use Rattle.primary_ix.specs.declared.component.PrimComp.{PrimComp}
+use Rattle.primary_ix.specs.declared.rows.PrimRow.{PrimRow}
+use Rattle.store_state.specs.Lists.{Lists, extents_of, trees_of}
 use Rattle.store_state.specs.EveryList.{IsLists}
-use Rattle.store_state.specs.OnlyRead.{HasRead, IsOnlyRead, IsPageIn}
+use Rattle.store_state.specs.OnlyRead.{HasRead, HasReadAlong, IsOnlyRead, IsPageIn}
 use Rattle.store_state.specs.Laws.ReadingStays.{legible-reads, kept-reads, images-reads}
 
 pages_of-but_last : (pages : List ℕ) → pages_of (given_but_last pages) ≡ pages
@@ -30,18 +37,6 @@ pages_of-reads (Err (Damaged page)) pages = pages_of-given pages
 pages_of-reads (Err OutOfMemory) pages = pages_of-given pages
 
 module _ (l : Lists) where
-  -- with the calls that it made
-  has-read : {X : Type 0} (old new : DeviceState) (result : Result X PageFault) (pages : List ℕ) → ((s : Story) → old.story ≡ Some s → old.clock ≡ clock_of s)
-      → Went (is_lent (extents_of l.components)) (λ reads. Asked reads old new) result pages → HasRead l old new result pages
-  has-read old new result pages counted went = record {
-    went = went;
-    made = λ s told. record {
-      calls = calls_of old.clock (reads_of result pages);
-      told = story-asked (reads_of result pages) old new s went.asked_for told;
-      made = (λ j. ok_calls (clock_of s) (calls_of (counted s told j) (reads_of result pages))) ∙ ok_calls-asked (clock_of s) (reads_of result pages);
-    };
-  }
-
   -- what it leaves
   pub only-read : {X : Type 0} (old new : DeviceState) (result : Result X PageFault) (pages : List ℕ) → IsLists l → HasRead l old new result pages → WhereTold old.story (λ s. IsOnlyRead old.pages l s new.story)
   only-read old new result pages is read s told =
@@ -57,19 +52,49 @@ module _ (l : Lists) where
         any_moment = λ log table kept. images-reads (IsPageIn l) s new.story run old.pages log table kept.held.rests;
       }
 
-  module _ {D : Type 0} (seen : D → DeviceState) (counted : (device : D) (s : Story) → (seen device).story ≡ Some s → (seen device).clock ≡ clock_of s) where
-    -- no page was asked for
-    pub read-none : {X : Type 0} (device : D) (x : X) → HasRead l (seen device) (seen device) (Ok x) []
-    read-none device x =
-        has-read (seen device) (seen device) (Ok x) [] (counted device)
-        (record { asked_for = asked-none (seen device); are_lent = All-nil (λ page. IsTrue (is_lent (extents_of l.components) page)); stops = tt })
+module _ {D : Type 0} (pages clock : D → ℕ) (story : D → Option Story) {X : Type 0} (result : Result X PageFault) where
+  -- what a reader of some trees on lent pages of a device did
+  pub record WentOver (extents : List Extent) (trees : List PrimComp) (old new : D) (way : List PrimComp → List (List PrimRow) → (roots : List ℕ) → List ℕ) : Type 0 where
+    pub asked : List ℕ
+    pub went : Went (is_lent extents) (λ reads. Asked reads (seen pages clock story old) (seen pages clock story new)) result asked
+    pub damaged : OnDamaged (fault_of result) (λ page. WhereTold (contents_of extents (story old)) (λ contents. IsDamagedIn trees contents page))
+    pub tested : OnGiven (fault_of result) (WhereTold (contents_of extents (story old)) (λ contents. All (IsTestedIn trees contents) asked))
+    pub goes : (disk : List (List PrimRow)) (roots : List ℕ) → AreShown (contents_of extents (story old)) trees disk → AreRoots trees roots → GoesBy result asked (way trees disk roots)
 
-    -- the pages of the components were lent meanwhile
-    pub read-lent : {X : Type 0} (extents : List Extent) (old first next new : D) (result : Result X PageFault) (asked : List ℕ) → first ≡ old → extents ≡ extents_of l.components → next ≡ new
-        → Went (is_lent extents) (λ reads. Asked reads (seen first) (seen next)) result asked
-        → HasRead l (seen old) (seen new) result asked
-    read-lent extents old first next new result asked begins lends ends went =
-        has-read (seen old) (seen new) result asked (counted old)
-        (subst (λ (d : D). Went (is_lent (extents_of l.components)) (λ reads. Asked reads (seen old) (seen d)) result asked) ends
-        (subst (λ (d : D). Went (is_lent (extents_of l.components)) (λ reads. Asked reads (seen d) (seen next)) result asked) begins
-        (subst (λ (es : List Extent). Went (is_lent es) (λ reads. Asked reads (seen first) (seen next)) result asked) lends went)))
+  module _ (l : Lists) (counted : (device : D) (s : Story) → story device ≡ Some s → clock device ≡ clock_of s) where
+    -- it read the components of a store, where these were the trees
+    pub read-lent : (extents : List Extent) (trees : List PrimComp) (old first next new : D) (way : List PrimComp → List (List PrimRow) → (roots : List ℕ) → List ℕ)
+        (whole : List (List PrimRow) → (roots : List ℕ) → List ℕ) → extents ≡ extents_of l.components → trees ≡ trees_of l.components → first ≡ old → next ≡ new
+        → ((disk : List (List PrimRow)) (roots : List ℕ) → way (trees_of l.components) disk roots ≡ whole disk roots)
+        → WentOver extents trees first next way → HasReadAlong l (seen pages clock story old) (seen pages clock story new) result whole
+    read-lent extents trees old first next new way whole lends are begins ends same over =
+        let there : WentOver (extents_of l.components) (trees_of l.components) old new way =
+        subst (λ (d : D). WentOver (extents_of l.components) (trees_of l.components) old d way) ends
+        (subst (λ (d : D). WentOver (extents_of l.components) (trees_of l.components) d next way) begins
+        (subst (λ (cs : List PrimComp). WentOver (extents_of l.components) cs first next way) are
+        (subst (λ (es : List Extent). WentOver es trees first next way) lends over))) in
+        let reads = reads_of result there.asked in (
+          there.asked,
+          record {
+            went = there.went;
+            made = λ s told. record {
+              calls = calls_of (clock old) reads;
+              told = story-asked reads (seen pages clock story old) (seen pages clock story new) s there.went.asked_for told;
+              made = (λ j. ok_calls (clock_of s) (calls_of (counted old s told j) reads)) ∙ ok_calls-asked (clock_of s) reads;
+            };
+            damaged = there.damaged;
+            tested = there.tested;
+          },
+          λ disk roots shown at. subst (GoesBy result there.asked) (same disk roots) (there.goes disk roots shown at),
+        )
+
+-- no page was asked for
+pub went-nowhere : {D : Type 0} (pages clock : D → ℕ) (story : D → Option Story) {X : Type 0} (x : X) (extents : List Extent) (trees : List PrimComp) (device : D)
+    → WentOver pages clock story (Ok x) extents trees device device (λ trees disk roots. [])
+went-nowhere pages clock story x extents trees device = record {
+  asked = [];
+  went = record { asked_for = asked-none (seen pages clock story device); are_lent = All-nil (λ page. IsTrue (is_lent extents page)); stops = tt };
+  damaged = tt;
+  tested = λ contents told. All-nil (IsTestedIn trees contents);
+  goes = λ disk roots shown at. refl;
+}

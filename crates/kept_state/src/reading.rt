@@ -1,11 +1,10 @@
 //! The rows of a store: those in memory, and behind them those on the pages of its components.
 
-ghost use Rattle.std.specs.Prelude.{◌≡◌, ◌≢◌, ℕ, ◌≤◌, List, All, ◌⊎◌, OnOk, IfOk, IfErr, IfSome, MatchResult, Ok, Some};
+ghost use Rattle.std.specs.Prelude.{◌≡◌, ◌≢◌, ◌≤◌, List, ◌⊎◌, IfOk, IfErr, IfSome, MatchResult, Ok, Some};
 ghost use Rattle.dev_model.specs.Counts.{Rose};
 ghost use Rattle.dev_model.specs.Story.{WhereTold};
-ghost use Rattle.dev_model.specs.declared.page_faults.PageFault.TheVariants.{Failed, Damaged, OutOfMemory};
-ghost use Rattle.dev_model.specs.Asked.{GoesBy};
-ghost use Rattle.device_pages.specs.Asked.{};
+ghost use Rattle.dev_model.specs.declared.page_faults.PageFault.TheVariants.{Failed, OutOfMemory};
+ghost use Rattle.device_pages.specs.Asked.{seen};
 ghost use Rattle.device_pages.specs.Lending.{contents_of};
 ghost use Rattle.order_merge.specs.Entries.{newest_at};
 ghost use Rattle.order_merge.specs.Ascending.{Ascends};
@@ -13,9 +12,6 @@ ghost use Rattle.order_merge.specs.Views.{lists_of};
 ghost use Rattle.table_model.specs.Table.{Table};
 ghost use Rattle.primary_ix.specs.Reading.{prim_reading};
 ghost use Rattle.primary_ix.specs.Components.{AreShown};
-ghost use Rattle.primary_ix.specs.Roots.{AreRoots};
-ghost use Rattle.primary_ix.specs.Pages.{IsTestedIn};
-ghost use Rattle.primary_ix.specs.Damage.{IsDamagedIn};
 ghost use Rattle.primary_ix.specs.Lookups.{in_memory, view_pages};
 ghost use Rattle.primary_ix.specs.AllPages.{all_pages};
 ghost use Rattle.primary_ix.specs.Wanted.{table_row};
@@ -24,7 +20,7 @@ ghost use Rattle.primary_ix.specs.declared.rows.PrimRow.{PrimRow as PrimRowModel
 ghost use Rattle.store_state.specs.Lists.{extents_of, trees_of};
 ghost use Rattle.store_state.specs.EveryList.{IsLists};
 ghost use Rattle.store_state.specs.Reading.{IsLegible};
-ghost use Rattle.store_state.specs.OnlyRead.{HasRead, IsOnlyRead};
+ghost use Rattle.store_state.specs.OnlyRead.{HasReadAlong, IsOnlyRead};
 
 use dev_model::{Device, PageFault};
 use device_pages::DevicePages;
@@ -44,16 +40,10 @@ fn find_row<D: Device>(
     ensures later { (D.seen device.old).faults ≤ (D.seen device.new).faults }
     ensures failed { IfErr result (λ fault. fault ≡ Failed → Rose (D.seen device.old).faults (D.seen device.new).faults) }
     ensures needs_no_memory { IfErr result (λ fault. fault ≢ OutOfMemory) }
-    ensures damaged { WhereTold (contents_of (extents_of state.now.0.components) (D.seen device.old).story) (λ contents.
-        IfErr result (λ fault. (page : ℕ) → fault ≡ Damaged page → IsDamagedIn (trees_of state.now.0.components) contents page)) }
-    ensures found { (disk : List (List PrimRowModel)) → AreShown (contents_of (extents_of state.now.0.components) (D.seen device.old).story) (trees_of state.now.0.components) disk
+    ensures found { (disk : List (List PrimRowModel)) → AreShown (contents_of (extents_of state.now.0.components) (D.story device.old)) (trees_of state.now.0.components) disk
         → MatchResult result (λ found. found ≡ newest_at prim_reading (lists_of state.now.0.active state.now.0.frozen disk) key) (λ fault. fault ≡ Failed) }
     ensures memory { IfSome (in_memory state.now.0.active state.now.0.frozen key) (λ row. (result ≡ Ok (Some row)) × (device.new ≡ device.old)) }
-    ensures asked { (pages : List ℕ) × HasRead state.now.0 (D.seen device.old) (D.seen device.new) result pages
-        × OnOk result (WhereTold (contents_of (extents_of state.now.0.components) (D.seen device.old).story) (λ contents. All (IsTestedIn (trees_of state.now.0.components) contents) pages))
-        × ((disk : List (List PrimRowModel)) (roots : List ℕ) → AreShown (contents_of (extents_of state.now.0.components) (D.seen device.old).story) (trees_of state.now.0.components) disk
-        → AreRoots (trees_of state.now.0.components) roots
-        → GoesBy result pages (view_pages key state.now.0.active state.now.0.frozen (trees_of state.now.0.components) disk roots)) }
+    ensures asked { HasReadAlong state.now.0 (seen D.pages D.clock D.story device.old) (seen D.pages D.clock D.story device.new) result (λ disk roots. view_pages key state.now.0.active state.now.0.frozen (trees_of state.now.0.components) disk roots) }
 {
     let components = state.components();
     if let Some(row) = state.in_memory(key) {
@@ -92,23 +82,12 @@ pub fn read_row<D: Device>(
     ensures failed { IfErr result (λ fault. fault ≡ Failed → Rose (D.seen device.old).faults (D.seen device.new).faults) }
     ensures later { (D.seen device.old).faults ≤ (D.seen device.new).faults }
     ensures needs_no_memory { IfErr result (λ fault. fault ≢ OutOfMemory) }
-    ensures damaged { WhereTold (contents_of (extents_of state.now.0.components) (D.seen device.old).story) (λ contents.
-        IfErr result (λ fault. (page : ℕ) → fault ≡ Damaged page → IsDamagedIn (trees_of state.now.0.components) contents page)) }
-
-    // Which pages were asked for, that each that was given was tested for its place, and which they are where the pages show lists.
-    ensures asked { (pages : List ℕ) × HasRead state.now.0 (D.seen device.old) (D.seen device.new) result pages
-        × OnOk result (WhereTold (contents_of (extents_of state.now.0.components) (D.seen device.old).story) (λ contents. All (IsTestedIn (trees_of state.now.0.components) contents) pages))
-        × ((disk : List (List PrimRowModel)) (roots : List ℕ) → AreShown (contents_of (extents_of state.now.0.components) (D.seen device.old).story) (trees_of state.now.0.components) disk
-        → AreRoots (trees_of state.now.0.components) roots
-        → GoesBy result pages (view_pages key state.now.0.active state.now.0.frozen (trees_of state.now.0.components) disk roots)) }
+    ensures asked { HasReadAlong state.now.0 (seen D.pages D.clock D.story device.old) (seen D.pages D.clock D.story device.new) result (λ disk roots. view_pages key state.now.0.active state.now.0.frozen (trees_of state.now.0.components) disk roots) }
 
     ensures stays { WhereTold (D.seen device.old).story (λ s. IsOnlyRead (D.seen device.old).pages state.now.0 s (D.seen device.new).story) }
     ensures same_pages { (D.seen device.new).pages ≡ (D.seen device.old).pages }
 {
-    match find_row(device, state, key) {
-        Ok(found) => Ok(record_of(found)),
-        Err(fault) => Err(fault),
-    }
+    Ok(record_of(find_row(device, state, key)?))
 }
 
 /// The rows that live, ascending by key: the newest row of each key, without the anti rows.
@@ -126,17 +105,9 @@ pub fn read_rows<D: Device>(
     ensures rows { (table : Table) (disk : List (List PrimRowModel)) → WhereTold (D.seen device.old).story (λ s. IsLegible table disk state.now.0 s
         → MatchResult result (λ rows. rows.items ≡ table_rows table) (λ fault. (fault ≡ Failed) ⊎ (fault ≡ OutOfMemory))) }
     ensures ascends { IfOk result (λ rows. Ascends prim_reading rows.items) }
-    ensures failed { IfErr result (λ fault. fault ≡ Failed → Rose (D.seen device.old).faults (D.seen device.new).faults) }
-    ensures later { (D.seen device.old).faults ≤ (D.seen device.new).faults }
-    ensures damaged { WhereTold (contents_of (extents_of state.now.0.components) (D.seen device.old).story) (λ contents.
-        IfErr result (λ fault. (page : ℕ) → fault ≡ Damaged page → IsDamagedIn (trees_of state.now.0.components) contents page)) }
-
-    // Which pages were asked for, that each that was given was tested for its place, and which they are where the pages show lists.
-    ensures asked { (pages : List ℕ) × HasRead state.now.0 (D.seen device.old) (D.seen device.new) result pages
-        × OnOk result (WhereTold (contents_of (extents_of state.now.0.components) (D.seen device.old).story) (λ contents. All (IsTestedIn (trees_of state.now.0.components) contents) pages))
-        × ((disk : List (List PrimRowModel)) (roots : List ℕ) → AreShown (contents_of (extents_of state.now.0.components) (D.seen device.old).story) (trees_of state.now.0.components) disk
-        → AreRoots (trees_of state.now.0.components) roots
-        → GoesBy result pages (all_pages (trees_of state.now.0.components) roots)) }
+    ensures failed { IfErr result (λ fault. fault ≡ Failed → Rose (D.fault_count device.old) (D.fault_count device.new)) }
+    ensures later { D.fault_count device.old ≤ D.fault_count device.new }
+    ensures asked { HasReadAlong state.now.0 (seen D.pages D.clock D.story device.old) (seen D.pages D.clock D.story device.new) result (λ disk roots. all_pages (trees_of state.now.0.components) roots) }
 
     ensures stays { WhereTold (D.seen device.old).story (λ s. IsOnlyRead (D.seen device.old).pages state.now.0 s (D.seen device.new).story) }
     ensures same_pages { (D.seen device.new).pages ≡ (D.seen device.old).pages }

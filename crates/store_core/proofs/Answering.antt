@@ -5,15 +5,13 @@ use Rattle.dev_model.specs.Story.{Story, WhereTold, clock_of}
 use Rattle.geo_base.specs.declared.points.Row.{Row}
 use Rattle.dev_model.specs.declared.page_faults.PageFault.{PageFault}
 use Rattle.dev_model.specs.declared.page_faults.PageFault.TheVariants as page
-use Rattle.primary_ix.specs.Damage.{IsDamagedIn}
 use Rattle.primary_ix.specs.Wanted.{table_row}
 use Rattle.primary_ix.specs.declared.rows.PrimRow.{PrimRow}
 use Rattle.table_model.specs.Table.{Table}
 use Rattle.wal_log.specs.declared.log.Log.{Log}
-use Rattle.store_state.specs.Lists.{Lists, extents_of, placed_up_to, trees_of}
+use Rattle.store_state.specs.Lists.{Lists, placed_up_to}
 use Rattle.dev_model.specs.Asked.{reads_of}
 use Rattle.device_pages.specs.Asked.{calls_of}
-use Rattle.device_pages.specs.Lending.{contents_of}
 use Rattle.store_state.specs.Reading.{IsLegible}
 use Rattle.store_state.specs.OnlyRead.{HasRead, IsOnlyRead}
 use Rattle.store_machine.specs.Calls.{Makes}
@@ -87,20 +85,15 @@ pub known-sound : (known : Bool) → (known ≡ true → ⊥) → known ≡ fals
 known-sound true never = absurd (never refl)
 known-sound false never = refl
 
--- a page that a read found damaged is none for its place, by what the pages of the components hold
-abbrev pub FindsDamaged : StoreState → PageFault → Type 0
-FindsDamaged old fault =
-    WhereTold (contents_of (extents_of old.lists.components) old.device.story) (λ contents. (n : ℕ) → fault ≡ page.Damaged n → IsDamagedIn (trees_of old.lists.components) contents n)
-
 pub got-refused : (old : StoreState) (now : DeviceState) (owner key : ℕ) (fault : PageFault) (pages : List ℕ) → ReadsRow old now key (Err fault) pages
-    → (fault ≡ page.Failed → Rose old.device.faults now.faults) → (fault ≡ page.OutOfMemory → ⊥) → FindsDamaged old fault
+    → (fault ≡ page.Failed → Rose old.device.faults now.faults) → (fault ≡ page.OutOfMemory → ⊥)
     → Makes old (record old { device = now }) owner (Get key (Err (refusal_of fault)))
-got-refused old now owner key page.Failed pages is rose memory bad =
+got-refused old now owner key page.Failed pages is rose memory =
     reads-event old now (way_to key) (Err page.Failed) pages old.seq owner (Get key (Err Fault)) is.reads
     (record { needs = λ known o m has tells. tt; owned = tt; acks = tt; stops = refl; faults = is.reads.later; cause = λ _. rose refl; time = is.time; causes = no-cause old.lists now (Get key (Err Fault)) refl })
     (λ m has i. record m { seq = sym has.seq i; log = sym has.log i; lists = sym has.lists i; table = m.table })
     refl (λ m calls are. are)
-got-refused old now owner key (page.Damaged n) pages is rose memory bad =
+got-refused old now owner key (page.Damaged n) pages is rose memory =
     reads-event old now (way_to key) (Err (page.Damaged n)) pages old.seq owner (Get key (Err (Damaged n))) is.reads
     (record {
       needs = λ known o m has tells. known-sound known (λ is_known. let t : _ = tells is_known in let e : page.Damaged n ≡ page.Failed = is.row m.table m.disk t.now t.told t.legible in cc);
@@ -110,11 +103,11 @@ got-refused old now owner key (page.Damaged n) pages is rose memory bad =
       faults = is.reads.later;
       cause = λ fault. absurd (let no : true ≡ false = sym fault in cc);
       time = is.time;
-      causes = read-cause old now (way_to key) n pages is.reads (λ contents told. bad contents told n refl);
+      causes = read-cause old now (way_to key) n pages is.reads is.reads.read.damaged;
     })
     (λ m has i. record m { seq = sym has.seq i; log = sym has.log i; lists = sym has.lists i; table = m.table })
     refl (λ m calls are. are)
-got-refused old now owner key page.OutOfMemory pages is rose memory bad = absurd (memory refl)
+got-refused old now owner key page.OutOfMemory pages is rose memory = absurd (memory refl)
 
 -- what a store tells of itself
 pub looked : (old : StoreState) (owner : ℕ) (look : Look) → look.ops ≡ old.log.records → look.frozen ≡ is_some old.lists.frozen → look.lanes ≡ 0 → look.placed ≡ placed_up_to old.lists.components

@@ -27,7 +27,7 @@ use Rattle.store_machine.specs.Laws.Reading.{AreReads-weaker, GoesOnWay, HasOnly
 use Rattle.store_machine.specs.declared.events.Action.TheVariants.{Region}
 use Rattle.store_core.specs.Refusals.{refusal_of}
 use Rattle.store_core.specs.Regions.{records_in}
-use Rattle.store_core.proofs.Answering.{FindsDamaged, known-sound}
+use Rattle.store_core.proofs.Answering.{known-sound}
 
 -- the records of a table's rows are its rows
 records-back : (rows : List Row) → records_in (map matter_row rows) ≡ rows
@@ -98,14 +98,14 @@ no-memory old now result pages owner kind rect reads given declared =
     (sym given) (λ m calls is. AreReads-weaker m way_to_all (IsPartBy result) IsFirstOf calls (λ some all part. first-of result some all given part) is)
 
 pub not-read : {X : Type 0} (old : StoreState) (now : DeviceState) (fault : PageFault) (refusal : Refusal) (pages : List ℕ) (owner : ℕ) (kind : IndexKind) (rect : Corners) → HasOnlyRead {X = X} old now way_to_all (Err fault) pages
-    → ((table : Table) (disk : List (List PrimRow)) → WhereTold old.device.story (λ s. IsLegible table disk old.lists s → (n : ℕ) → fault ≡ page.Damaged n → ⊥)) → (fault ≡ page.Failed → Rose old.device.faults now.faults) → FindsDamaged old fault
+    → ((table : Table) (disk : List (List PrimRow)) → WhereTold old.device.story (λ s. IsLegible table disk old.lists s → (n : ℕ) → fault ≡ page.Damaged n → ⊥)) → (fault ≡ page.Failed → Rose old.device.faults now.faults)
     → has_index old.declared kind ≡ true → refusal ≡ refusal_of fault → Makes old (record old { device = now }) owner (Region kind rect (Err refusal))
-not-read {X} old now fault refusal pages owner kind rect reads sound rose bad declared is =
-    subst (λ (r : Refusal). Makes old (record old { device = now }) owner (Region kind rect (Err r))) (sym is) (by_fault fault reads sound rose bad)
+not-read {X} old now fault refusal pages owner kind rect reads sound rose declared is =
+    subst (λ (r : Refusal). Makes old (record old { device = now }) owner (Region kind rect (Err r))) (sym is) (by_fault fault reads sound rose)
   where
     by_fault : (f : PageFault) → HasOnlyRead {X = X} old now way_to_all (Err f) pages → ((table : Table) (disk : List (List PrimRow)) → WhereTold old.device.story (λ s. IsLegible table disk old.lists s → (n : ℕ) → f ≡ page.Damaged n → ⊥))
-        → (f ≡ page.Failed → Rose old.device.faults now.faults) → FindsDamaged old f → Makes old (record old { device = now }) owner (Region kind rect (Err (refusal_of f)))
-    by_fault page.Failed reads_it never rises wrong =
+        → (f ≡ page.Failed → Rose old.device.faults now.faults) → Makes old (record old { device = now }) owner (Region kind rect (Err (refusal_of f)))
+    by_fault page.Failed reads_it never rises =
         reads-event old now way_to_all (Err page.Failed) pages old.seq owner (Region kind rect (Err Fault)) reads_it
         (record {
           needs = λ known o m has tells. ap (λ (d : ℕ). has_index d kind) (sym has.declared) ∙ declared;
@@ -119,7 +119,7 @@ not-read {X} old now fault refusal pages owner kind rect reads sound rose bad de
         })
         (λ m has i. record m { seq = sym has.seq i; log = sym has.log i; lists = sym has.lists i; table = m.table })
         refl (λ m calls are. are)
-    by_fault (page.Damaged n) reads_it never rises wrong =
+    by_fault (page.Damaged n) reads_it never rises =
         reads-event old now way_to_all (Err (page.Damaged n)) pages old.seq owner (Region kind rect (Err (Damaged n))) reads_it
         (record {
           needs = λ known o m has tells. (known-sound known (λ is_known. let t : _ = tells is_known in never m.table m.disk t.now t.told t.legible n refl), ap (λ (d : ℕ). has_index d kind) (sym has.declared) ∙ declared);
@@ -129,11 +129,11 @@ not-read {X} old now fault refusal pages owner kind rect reads sound rose bad de
           faults = reads_it.later;
           cause = λ fault_is. absurd (let no : true ≡ false = sym fault_is in cc);
           time = time-of old now (Err (page.Damaged n)) pages reads_it;
-          causes = read-cause old now way_to_all n pages reads_it (λ contents told. wrong contents told n refl);
+          causes = read-cause old now way_to_all n pages reads_it reads_it.read.damaged;
         })
         (λ m has i. record m { seq = sym has.seq i; log = sym has.log i; lists = sym has.lists i; table = m.table })
         refl (λ m calls are. are)
-    by_fault page.OutOfMemory reads_it never rises wrong = no-memory old now (Err page.OutOfMemory) pages owner kind rect reads_it refl declared
+    by_fault page.OutOfMemory reads_it never rises = no-memory old now (Err page.OutOfMemory) pages owner kind rect reads_it refl declared
 
 pub read-facts : {X : Type 0} (old : StoreState) (now : DeviceState) (result : Result X PageFault) (pages : List ℕ) → HasRead old.lists old.device now result pages
     → GoesOnWay old way_to_all result pages

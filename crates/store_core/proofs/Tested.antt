@@ -1,7 +1,7 @@
 -- The pages that calls read were tested.
-use Rattle.std.proofs.Common.{◌≡◌, ℕ, ◌+◌, ◌*◌, List, [], ◌∷◌, ◌++◌, map, All, length, Option, Some, Ok, Err, Result, refl, sym, ◌∙◌, ap, subst, append_assoc, append-nil}
+use Rattle.std.proofs.Common.{◌≡◌, ℕ, ◌+◌, ◌*◌, List, [], ◌∷◌, ◌++◌, map, length, Option, Some, Ok, Err, Result, refl, sym, ◌∙◌, ap, subst, append_assoc, append-nil}
 use Rattle.std.specs.Prelude.{IfErr, OnOk}
-use Rattle.dev_model.specs.Story.{Calls, Story, WhereTold, after, clock_of}
+use Rattle.dev_model.specs.Story.{Calls, Story, after, clock_of}
 use Rattle.dev_model.specs.Doing.{all_noted}
 use Rattle.dev_model.specs.DeviceCalls.{ok_calls}
 use Rattle.dev_model.specs.Laws.CallLists.{ok_calls-append}
@@ -15,18 +15,15 @@ use Rattle.page_codec.specs.declared.pages.TheConstants.{PAGE_BYTES}
 use Rattle.dev_model.specs.Given.{given}
 use Rattle.device_pages.specs.ReadsMade.{reads_made}
 use Rattle.device_pages.specs.Claims.{MadeReads}
-use Rattle.device_pages.specs.Lending.{contents_of}
-use Rattle.primary_ix.specs.Pages.{IsTestedIn}
-use Rattle.primary_ix.specs.Damage.{IsDamagedIn}
 use Rattle.wal_log.specs.Records.{record_bytes}
 use Rattle.wal_log.specs.Changes.{append_calls}
 use Rattle.wal_log.specs.declared.log.Log.{Log}
 use Rattle.wal_log.specs.declared.records.LogOp.{LogOp}
 use Rattle.wal_log.specs.declared.records.Record.{Record}
-use Rattle.store_state.specs.Lists.{extents_of, trees_of}
 use Rattle.store_state.specs.OnlyRead.{HasRead}
 use Rattle.kept_state.specs.Writing.{next_record}
 use Rattle.store_machine.specs.Laws.LogCalls.{append-calls}
+use Rattle.store_machine.specs.Laws.Reading.{seen_of}
 use Rattle.store_machine.specs.Standing.{StoreState}
 use Rattle.dev_model.specs.Story.{DeviceState}
 use Rattle.store_machine.specs.declared.events.Refusal.{Refusal}
@@ -65,29 +62,25 @@ read-before pages s mid now log r made width did =
     }
 
 module _ (old : StoreState) (now : DeviceState) where
-  pub tested : {X Y : Type 0} (x : X) (y : Y) (pages : List ℕ) → HasRead old.lists old.device now (Ok x) pages
-      → WhereTold (contents_of (extents_of old.lists.components) old.device.story) (λ contents. All (IsTestedIn (trees_of old.lists.components) contents) pages) → TestsPages old now (Ok y)
-  tested x y pages read all s told contents is = (pages, read-pages pages s now.story (read.made s told), all contents is)
+  pub tested : {X Y : Type 0} (x : X) (y : Y) (pages : List ℕ) → HasRead old.lists (seen_of old.device) (seen_of now) (Ok x) pages → TestsPages old now (Ok y)
+  tested x y pages read s told contents is = (pages, read-pages pages s now.story (read.made s told), read.tested contents is)
 
   -- with a write behind the reads
-  pub tested-before : {X Y : Type 0} (mid : DeviceState) (x : X) (y : Y) (pages : List ℕ) (log : Log) (r : Record) → HasRead old.lists old.device mid (Ok x) pages
-      → WhereTold (contents_of (extents_of old.lists.components) old.device.story) (λ contents. All (IsTestedIn (trees_of old.lists.components) contents) pages)
+  pub tested-before : {X Y : Type 0} (mid : DeviceState) (x : X) (y : Y) (pages : List ℕ) (log : Log) (r : Record) → HasRead old.lists (seen_of old.device) (seen_of mid) (Ok x) pages
       → length (record_bytes r) ≡ 95 → now.story ≡ all_noted (append_calls log r) mid.story → TestsPages old now (Ok y)
-  tested-before mid x y pages log r read all width did s told contents is = (pages, read-before pages s mid.story now.story log r (read.made s told) width did, all contents is)
+  tested-before mid x y pages log r read width did s told contents is = (pages, read-before pages s mid.story now.story log r (read.made s told) width did, read.tested contents is)
 
-  pub damaged : {X : Type 0} (Y : Type 0) (fault : PageFault) (pages : List ℕ) → HasRead {X = X} old.lists old.device now (Err fault) pages
-      → WhereTold (contents_of (extents_of old.lists.components) old.device.story) (λ contents. (n : ℕ) → fault ≡ page.Damaged n → IsDamagedIn (trees_of old.lists.components) contents n)
+  pub damaged : {X : Type 0} (Y : Type 0) (fault : PageFault) (pages : List ℕ) → HasRead {X = X} old.lists (seen_of old.device) (seen_of now) (Err fault) pages
       → TestsPages {X = Y} old now (Err (refusal_of fault))
-  damaged Y page.Failed pages read bad s told contents is = tt
-  damaged Y (page.Damaged n) pages read bad s told contents is = (pages, read-pages pages s now.story (read.made s told), read.went.stops, bad contents is n refl)
-  damaged Y page.OutOfMemory pages read bad s told contents is = tt
+  damaged Y page.Failed pages read s told contents is = tt
+  damaged Y (page.Damaged n) pages read s told contents is = (pages, read-pages pages s now.story (read.made s told), read.went.stops, read.damaged contents is)
+  damaged Y page.OutOfMemory pages read s told contents is = tt
 
 -- a write behind the read of its row
-pub tested-write : (old : StoreState) (mid now : DeviceState) (op : LogOp) (row : Option Row) (result : Result Wrote Refusal) (pages : List ℕ) → HasRead old.lists old.device mid (Ok row) pages
-    → WhereTold (contents_of (extents_of old.lists.components) old.device.story) (λ contents. All (IsTestedIn (trees_of old.lists.components) contents) pages)
+pub tested-write : (old : StoreState) (mid now : DeviceState) (op : LogOp) (row : Option Row) (result : Result Wrote Refusal) (pages : List ℕ) → HasRead old.lists (seen_of old.device) (seen_of mid) (Ok row) pages
     → OnOk result (HasAppended (record old { device = mid }) now op row) → IfErr result (λ refusal. refusal ≡ Fault) → TestsPages old now result
-tested-write old mid now op row (Ok wrote) pages read all logged fault = tested-before old now mid row wrote pages old.log (next_record old.log op (old_point row)) read all logged.width logged.did
-tested-write old mid now op row (Err refusal) pages read all logged fault = subst (λ (r : Refusal). TestsPages {X = Wrote} old now (Err r)) (sym fault) (λ s told contents is. tt)
+tested-write old mid now op row (Ok wrote) pages read logged fault = tested-before old now mid row wrote pages old.log (next_record old.log op (old_point row)) read logged.width logged.did
+tested-write old mid now op row (Err refusal) pages read logged fault = subst (λ (r : Refusal). TestsPages {X = Wrote} old now (Err r)) (sym fault) (λ s told contents is. tt)
 
 -- a refusal before anything is done
 pub untested : (X : Type 0) (s : StoreState) (now : DeviceState) (refusal : Refusal) → RefusesNow s refusal → TestsPages {X = X} s now (Err refusal)

@@ -34,7 +34,7 @@ use Rattle.store_machine.specs.Laws.Logging.{between, LogsAll, wrote_state}
 use Rattle.store_machine.specs.declared.events.Action.TheVariants.{Write}
 use Rattle.store_core.specs.Refusals.{refusal_of}
 use Rattle.store_core.specs.Writing.{CanWrite, RefusesNow, Logged, IsNotLogged, WasRead, has_to_log, matter_of, old_point}
-use Rattle.store_core.proofs.Answering.{FindsDamaged, ReadsRow, known-sound}
+use Rattle.store_core.proofs.Answering.{ReadsRow, known-sound}
 use Rattle.store_core.proofs.Found.{remove-absent, place-found, had-row, had-point}
 
 ready-to_write : (old : StoreState) (m : Machine) → CanWrite old → Has old m → IsReadyToWrite m
@@ -91,14 +91,14 @@ refused-memory old new owner op is can =
 
 -- a write whose row could not be read
 pub read-refused : (old : StoreState) (now : DeviceState) (owner : ℕ) (op : LogOp) (fault : PageFault) (pages : List ℕ) → ReadsRow old now (key_of op) (Err fault) pages
-    → (fault ≡ page.Failed → Rose old.device.faults now.faults) → (fault ≡ page.OutOfMemory → ⊥) → FindsDamaged old fault → CanWrite old
+    → (fault ≡ page.Failed → Rose old.device.faults now.faults) → (fault ≡ page.OutOfMemory → ⊥) → CanWrite old
     → Makes old (record old { device = now }) owner (Write op (Err (refusal_of fault)))
-read-refused old now owner op page.Failed pages is rose memory bad can =
+read-refused old now owner op page.Failed pages is rose memory can =
     reads-event old now (way_to (key_of op)) (Err page.Failed) pages old.seq owner (Write op (Err Fault)) is.reads
     (record { needs = λ known o m has tells. ready-to_write old m can has; owned = tt; acks = tt; stops = tt; faults = is.reads.later; cause = λ _. rose refl; time = is.time; causes = no-cause old.lists now (Write op (Err Fault)) refl })
     (λ m has i. record m { seq = sym has.seq i; log = sym has.log i; lists = sym has.lists i; table = m.table })
     refl (λ m calls are. are)
-read-refused old now owner op (page.Damaged n) pages is rose memory bad can =
+read-refused old now owner op (page.Damaged n) pages is rose memory can =
     reads-event old now (way_to (key_of op)) (Err (page.Damaged n)) pages old.seq owner (Write op (Err (Damaged n))) is.reads
     (record {
       needs = λ known o m has tells. (
@@ -111,11 +111,11 @@ read-refused old now owner op (page.Damaged n) pages is rose memory bad can =
       faults = is.reads.later;
       cause = λ fault. absurd (let never : true ≡ false = sym fault in cc);
       time = is.time;
-      causes = read-cause old now (way_to (key_of op)) n pages is.reads (λ contents told. bad contents told n refl);
+      causes = read-cause old now (way_to (key_of op)) n pages is.reads is.reads.read.damaged;
     })
     (λ m has i. record m { seq = sym has.seq i; log = sym has.log i; lists = sym has.lists i; table = m.table })
     refl (λ m calls are. are)
-read-refused old now owner op page.OutOfMemory pages is rose memory bad can = absurd (memory refl)
+read-refused old now owner op page.OutOfMemory pages is rose memory can = absurd (memory refl)
 
 -- a row that was read, and nothing else was done
 pub was-read : (old : StoreState) (now : DeviceState) (key : ℕ) (row : Option Row) (pages : List ℕ) → ReadsRow old now key (Ok row) pages → WasRead old (between old now) key row
