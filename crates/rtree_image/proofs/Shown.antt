@@ -9,7 +9,10 @@ use Rattle.std.proofs.lemmas.List.Elements.{All-take, All-drop}
 use Rattle.std.proofs.lemmas.Grind.{div_ceil_times}
 use Rattle.std.proofs.lemmas.Nat.{from_be_bytes-to_be_bytes_2, from_be_bytes-to_be_bytes_4, from_be_bytes-to_be_bytes_8}
 use Rattle.dev_model.specs.Story.{WhereTold}
-use Rattle.dev_model.specs.declared.page_faults.PageFault.TheVariants.{Damaged}
+use Rattle.dev_model.specs.declared.page_faults.PageFault.{PageFault}
+use Rattle.dev_model.specs.declared.page_faults.PageFault.TheVariants.{Failed, Damaged, OutOfMemory}
+use Rattle.dev_model.specs.Asked.{OnDamaged}
+use Rattle.tree_shape.specs.Laws.Places.{number_fits, place_below}
 use Rattle.page_codec.specs.declared.kinds.TheConstants.{RTREE_INNER}
 use Rattle.page_codec.specs.Page.{row_count, rows_on, ShowsRows}
 use Rattle.geo_base.specs.Corners.{Corners}
@@ -141,28 +144,43 @@ pub leaf_told : (s : Shape) (list : List RtRow) → All IsStored list → (at : 
 unfolding level_rows
 leaf_told s list stored at kind page shows = ap (map row_of) shows.all ∙ rows_back (rows_below s list 0 at) (stored_below s list stored 0 at)
 
--- what was read shows the page that was asked for
-pub shown_read : (first rows : ℕ) (contents : Option (ℕ → List ℕ)) (list : List RtRow) (shown : IsShown contents first rows list) (buf : List ℕ)
-    → (level at : ℕ) → IsPlace (tree_of rows) level at → WhereTold contents (λ bytes. buf ≡ bytes (page_number (tree_of rows) first level at))
-    → ShowsRows (level_kind level) level (level_rows (tree_of rows) list level at) buf
-shown_read first rows contents list shown buf level at place read =
-    subst (λ x. ShowsRows (level_kind level) level (level_rows (tree_of rows) list level at) x) (sym (read shown.bytes shown.told))
-    (subst (λ r. ShowsRows (level_kind level) level (level_rows (tree_of r) list level at) (shown.bytes (page_number (tree_of r) first level at))) shown.count
-    (shown.shows level at (subst (λ r. IsPlace (tree_of r) level at) (sym shown.count) place)))
+module _ (first rows : ℕ) (contents : Option (ℕ → List ℕ)) (list : List RtRow) (shown : IsShown contents first rows list) (level at : ℕ) (place : IsPlace (tree_of rows) level at) where
+  pub shown_at : ShowsRows (level_kind level) level (level_rows (tree_of rows) list level at) (shown.bytes (page_number (tree_of rows) first level at))
+  shown_at =
+      subst (λ r. ShowsRows (level_kind level) level (level_rows (tree_of r) list level at) (shown.bytes (page_number (tree_of r) first level at))) shown.count
+      (shown.shows level at (subst (λ r. IsPlace (tree_of r) level at) (sym shown.count) place))
+
+  -- what was read shows the page that was asked for
+  pub shown_read : (buf : List ℕ) → WhereTold contents (λ bytes. buf ≡ bytes (page_number (tree_of rows) first level at)) → ShowsRows (level_kind level) level (level_rows (tree_of rows) list level at) buf
+  shown_read buf read = subst (λ x. ShowsRows (level_kind level) level (level_rows (tree_of rows) list level at) x) (sym (read shown.bytes shown.told)) shown_at
+
+-- a search of a tree that shows a list gives no page as damaged
+pub never_damaged : (first rows : ℕ) → rows < 2 ^ 32 → (contents : Option (ℕ → List ℕ)) (list : List RtRow) → IsShown contents first rows list → (fault : PageFault)
+    → OnDamaged (Some fault) (λ page. WhereTold contents (λ bytes. IsDamaged first rows bytes page)) → (page : ℕ) → fault ≡ Damaged page → ⊥
+never_damaged first rows few contents list shown Failed bad page e = cc
+never_damaged first rows few contents list shown OutOfMemory bad page e = cc
+never_damaged first rows few contents list shown (Damaged number) bad page e =
+    let d = bad shown.bytes shown.told in
+    d.bad (subst (λ n. IsTreePage (tree_of rows) d.level d.at (shown.bytes n)) (sym d.number) (sound d.level d.at d.place (shown_at first rows contents list shown d.level d.at d.place)))
+  where
+    sound : (level at : ℕ) → IsPlace (tree_of rows) level at → ShowsRows (level_kind level) level (level_rows (tree_of rows) list level at) (shown.bytes (page_number (tree_of rows) first level at))
+        → IsTreePage (tree_of rows) level at (shown.bytes (page_number (tree_of rows) first level at))
+    sound zero at place shows = shows.page
+    sound (suc below) at place shows =
+        inner_sound (tree_of rows) (lit≤ tt) list shown.stored below at place.inside _ shows
+        (λ c inside. let n = number_fits (tree_of rows) (lit≤ tt) (lit≤ tt) few below c (place_below (tree_of rows) below at c place inside) in omega arith)
 
 -- what was read for a place isn't a page for it
-pub damaged_at : (first rows : ℕ) (contents : Option (ℕ → List ℕ)) (bytes : ℕ → List ℕ) (buf : List ℕ) (level at page damaged : ℕ)
+pub damaged_at : (first rows : ℕ) (contents : Option (ℕ → List ℕ)) (bytes : ℕ → List ℕ) (buf : List ℕ) (level at page : ℕ)
     → contents ≡ Some bytes → WhereTold contents (λ bytes. buf ≡ bytes (page_number (tree_of rows) first level at)) → IsPlace (tree_of rows) level at
-    → page ≡ page_number (tree_of rows) first level at → Damaged page ≡ Damaged damaged → (IsTreePage (tree_of rows) level at buf → ⊥) → IsDamaged first rows bytes damaged
-damaged_at first rows contents bytes buf level at page damaged told read place number e bad =
-    let same : page ≡ damaged = cc in
-    record {
-      level = level;
-      at = at;
-      place = place;
-      number = sym same ∙ number;
-      bad = λ well. bad (subst (IsTreePage (tree_of rows) level at) (sym (read bytes told ∙ ap bytes (sym number ∙ same))) well);
-    }
+    → page ≡ page_number (tree_of rows) first level at → (IsTreePage (tree_of rows) level at buf → ⊥) → IsDamaged first rows bytes page
+damaged_at first rows contents bytes buf level at page told read place number bad = record {
+  level = level;
+  at = at;
+  place = place;
+  number = number;
+  bad = λ well. bad (subst (IsTreePage (tree_of rows) level at) (sym (read bytes told ∙ ap bytes (sym number))) well);
+}
 
 -- what was read for a place is a page for it
 pub tested_at : (first rows : ℕ) (rect : Corners) (contents : Option (ℕ → List ℕ)) (buf : List ℕ) (level at : ℕ)

@@ -1,17 +1,16 @@
 //! A search for the rows in a rectangle: level by level from the root, with one page in hand.
 
-ghost use Rattle.std.specs.Prelude.{◌≡◌, ◌≢◌, ℕ, suc, [], ◌∷◌, ◌++◌, ◌+◌, ◌*◌, ◌^◌, ◌<◌, ◌≤◌, List, length, map, min, is_ok, All, OnOk, OnErr, IfOk, IfErr, MatchResult, AllPairs};
+ghost use Rattle.std.specs.Prelude.{◌≡◌, ◌≢◌, ℕ, suc, [], ◌∷◌, ◌++◌, ◌+◌, ◌*◌, ◌^◌, ◌<◌, ◌≤◌, List, length, map, min, is_ok, OnOk, OnErr, IfOk, MatchResult, AllPairs};
 ghost use Rattle.std.specs.List.{flat_map};
-ghost use Rattle.dev_model.specs.Counts.{Rose, HasCause};
+ghost use Rattle.dev_model.specs.Lending.{StaysLent};
 ghost use Rattle.dev_model.specs.Story.{WhereTold};
-ghost use Rattle.dev_model.specs.declared.page_faults.PageFault.TheVariants.{Failed, Damaged, OutOfMemory};
+ghost use Rattle.dev_model.specs.declared.page_faults.PageFault.TheVariants.{Damaged};
 ghost use Rattle.tree_shape.specs.Shape.{level_size, level_start, IsRoot, IsPlace};
-ghost use Rattle.dev_model.specs.Asked.{Went, GoesBy};
+ghost use Rattle.dev_model.specs.Asked.{fault_of, GoesBy};
 ghost use Rattle.rtree_image.specs.declared.rows.RtRow.{RtRow};
 ghost use Rattle.rtree_image.specs.Image.{tree_of, rows_below, IsShown, page_number, AreLent};
 ghost use Rattle.rtree_image.specs.Visits.{rows_inside, visited_pages};
-ghost use Rattle.rtree_image.specs.Steps.{AscendWithin, AddsWithin, WentAmong, children_met};
-ghost use Rattle.rtree_image.specs.Damage.{IsDamaged, IsTestedFor};
+ghost use Rattle.rtree_image.specs.Steps.{AscendWithin, AddsWithin, ReadsTree, ReadsLevel, children_met};
 
 use crate::in_page::{Unusable, add_children, add_rows};
 use crate::levels::{level_at, root_level};
@@ -30,20 +29,16 @@ fn read_place<P: Pages>(
     buf: &mut [u8; PAGE_BYTES],
 ) -> Result<u32, dev_model::Failed>
     requires place { IsPlace (tree_of tree.rows) level at }
-    requires lent { AreLent (P.lent pages.old) tree.first tree.rows }
-    ensures same_lent { P.lent pages.new ≡ P.lent pages.old }
-    ensures same_contents { P.contents pages.new ≡ P.contents pages.old }
-    ensures cause { HasCause (P.fault_count pages.old) (P.fault_count pages.new) result }
+    requires lent { AreLent (P.lending pages.old).lent tree.first tree.rows }
+    ensures stays { StaysLent (P.lending pages.old) (P.lending pages.new) result }
     ensures asked { P.asked pages.old pages.new ((page_number (tree_of tree.rows) tree.first level at, is_ok result) ∷ []) }
     ensures number { IfOk result (λ page. page ≡ page_number (tree_of tree.rows) tree.first level at) }
-    ensures bytes { OnOk result (WhereTold (P.contents pages.old) (λ contents. buf.new ≡ contents (page_number (tree_of tree.rows) tree.first level at))) }
+    ensures bytes { OnOk result (WhereTold (P.lending pages.old).contents (λ contents. buf.new ≡ contents (page_number (tree_of tree.rows) tree.first level at))) }
 {
     let here = level_at(tree.rows, level);
     let page = (u64::from(tree.first) + (here.start + at)) as u32;
-    match pages.read_page(page, buf) {
-        Ok(()) => Ok(page),
-        Err(failed) => Err(failed),
-    }
+    pages.read_page(page, buf)?;
+    Ok(page)
 }
 
 // Reads a page above the leaves, and adds those of its children whose bounds meet the rectangle, by their places.
@@ -58,22 +53,13 @@ fn visit<P: Pages>(
 ) -> Result<(), PageFault>
     requires level { below < 255 }
     requires place { IsPlace (tree_of tree.rows) (suc below) at }
-    requires lent { AreLent (P.lent pages.old) tree.first tree.rows }
-    ensures same_lent { P.lent pages.new ≡ P.lent pages.old }
-    ensures same_contents { P.contents pages.new ≡ P.contents pages.old }
-    ensures later { P.fault_count pages.old ≤ P.fault_count pages.new }
-    ensures failed { IfErr result (λ fault. fault ≡ Failed → Rose (P.fault_count pages.old) (P.fault_count pages.new)) }
-    ensures went { Went (P.lent pages.old) (P.asked pages.old pages.new) result (page_number (tree_of tree.rows) tree.first (suc below) at ∷ []) }
-    ensures damaged { WhereTold (P.contents pages.old) (λ contents. IfErr result (λ fault. (page : ℕ) → fault ≡ Damaged page → IsDamaged tree.first tree.rows contents page)) }
-    ensures tested { OnOk result (WhereTold (P.contents pages.old) (λ contents. IsTestedFor rect.now tree.first tree.rows contents (page_number (tree_of tree.rows) tree.first (suc below) at))) }
+    requires lent { AreLent (P.lending pages.old).lent tree.first tree.rows }
+    ensures reads { ReadsTree rect.now tree.first tree.rows P.lending P.asked pages.old pages.new (fault_of result) (page_number (tree_of tree.rows) tree.first (suc below) at ∷ []) }
     ensures ascends { OnOk result (AddsWithin (at * 340) (min (suc at * 340) (level_size (tree_of tree.rows) below)) next.old.items next.new.items) }
-    ensures told { (list : List RtRow) → IsShown (P.contents pages.old) tree.first tree.rows list
-        → MatchResult result (λ _. next.new.items ≡ next.old.items ++ children_met (tree_of tree.rows) list rect.now below at) (λ fault. (page : ℕ) → fault ≢ Damaged page) }
+    ensures told { (list : List RtRow) → IsShown (P.lending pages.old).contents tree.first tree.rows list
+        → OnOk result (next.new.items ≡ next.old.items ++ children_met (tree_of tree.rows) list rect.now below at) }
 {
-    let page = match read_place::<P>(pages, tree, below + 1, at, buf) {
-        Ok(page) => page,
-        Err(_) => return Err(PageFault::Failed),
-    };
+    let page = read_place::<P>(pages, tree, below + 1, at, buf)?;
     match add_children(buf, tree.rows, below, at, rect, next) {
         Ok(()) => Ok(()),
         Err(Unusable::Damaged) => Err(PageFault::Damaged { page }),
@@ -91,22 +77,13 @@ fn visit_leaf<P: Pages>(
     out: &mut Vec<RtRow>,
 ) -> Result<(), PageFault>
     requires place { IsPlace (tree_of tree.rows) 0 at }
-    requires lent { AreLent (P.lent pages.old) tree.first tree.rows }
-    ensures same_lent { P.lent pages.new ≡ P.lent pages.old }
-    ensures same_contents { P.contents pages.new ≡ P.contents pages.old }
-    ensures later { P.fault_count pages.old ≤ P.fault_count pages.new }
-    ensures failed { IfErr result (λ fault. fault ≡ Failed → Rose (P.fault_count pages.old) (P.fault_count pages.new)) }
-    ensures went { Went (P.lent pages.old) (P.asked pages.old pages.new) result (page_number (tree_of tree.rows) tree.first 0 at ∷ []) }
-    ensures damaged { WhereTold (P.contents pages.old) (λ contents. IfErr result (λ fault. (page : ℕ) → fault ≡ Damaged page → IsDamaged tree.first tree.rows contents page)) }
-    ensures tested { OnOk result (WhereTold (P.contents pages.old) (λ contents. IsTestedFor rect.now tree.first tree.rows contents (page_number (tree_of tree.rows) tree.first 0 at))) }
+    requires lent { AreLent (P.lending pages.old).lent tree.first tree.rows }
+    ensures reads { ReadsTree rect.now tree.first tree.rows P.lending P.asked pages.old pages.new (fault_of result) (page_number (tree_of tree.rows) tree.first 0 at ∷ []) }
     ensures keeps { (more : List RtRow) × (out.new.items ≡ out.old.items ++ more) }
-    ensures told { (list : List RtRow) → IsShown (P.contents pages.old) tree.first tree.rows list
-        → MatchResult result (λ _. out.new.items ≡ out.old.items ++ rows_inside rect.now (rows_below (tree_of tree.rows) list 0 at)) (λ fault. (page : ℕ) → fault ≢ Damaged page) }
+    ensures told { (list : List RtRow) → IsShown (P.lending pages.old).contents tree.first tree.rows list
+        → OnOk result (out.new.items ≡ out.old.items ++ rows_inside rect.now (rows_below (tree_of tree.rows) list 0 at)) }
 {
-    let page = match read_place::<P>(pages, tree, 0, at, buf) {
-        Ok(page) => page,
-        Err(_) => return Err(PageFault::Failed),
-    };
+    let page = read_place::<P>(pages, tree, 0, at, buf)?;
     match open_page(buf, RTREE_LEAF, 0) {
         Ok(count) => match add_rows(buf, count, rect, out) {
             Ok(()) => Ok(()),
@@ -130,22 +107,14 @@ fn visit_level<P: Pages>(
     requires up_to_root { (low : ℕ) → low < suc below → 1 < level_size (tree_of tree.rows) low }
     requires places { AscendWithin 0 (level_size (tree_of tree.rows) (suc below)) places.now }
     requires none { next.old.items ≡ [] }
-    requires lent { AreLent (P.lent pages.old) tree.first tree.rows }
-    ensures same_lent { P.lent pages.new ≡ P.lent pages.old }
-    ensures same_contents { P.contents pages.new ≡ P.contents pages.old }
-    ensures later { P.fault_count pages.old ≤ P.fault_count pages.new }
-    ensures failed { IfErr result (λ fault. fault ≡ Failed → Rose (P.fault_count pages.old) (P.fault_count pages.new)) }
-    ensures went { WentAmong (P.lent pages.old) (P.asked pages.old pages.new) result (page_number (tree_of tree.rows) tree.first (suc below)) places.now }
-    ensures damaged { WhereTold (P.contents pages.old) (λ contents. IfErr result (λ fault. (page : ℕ) → fault ≡ Damaged page → IsDamaged tree.first tree.rows contents page)) }
-    ensures tested { OnOk result (WhereTold (P.contents pages.old) (λ contents. All (IsTestedFor rect.now tree.first tree.rows contents) (map (page_number (tree_of tree.rows) tree.first (suc below)) places.now))) }
+    requires lent { AreLent (P.lending pages.old).lent tree.first tree.rows }
+    ensures reads { ReadsLevel rect.now tree.first tree.rows P.lending P.asked pages.old pages.new (fault_of result) (suc below) places.now }
     ensures ascends { OnOk result (AscendWithin 0 (level_size (tree_of tree.rows) below) next.new.items) }
-    ensures told { (list : List RtRow) → IsShown (P.contents pages.old) tree.first tree.rows list
-        → MatchResult result (λ _. next.new.items ≡ flat_map (children_met (tree_of tree.rows) list rect.now below) places.now) (λ fault. (page : ℕ) → fault ≢ Damaged page) }
+    ensures told { (list : List RtRow) → IsShown (P.lending pages.old).contents tree.first tree.rows list
+        → OnOk result (next.new.items ≡ flat_map (children_met (tree_of tree.rows) list rect.now below) places.now) }
 {
     for i in 0..places.len() {
-        if let Err(fault) = visit::<P>(pages, tree, below, places[i], rect, buf, next) {
-            return Err(fault);
-        }
+        visit::<P>(pages, tree, below, places[i], rect, buf, next)?;
     }
     Ok(())
 }
@@ -160,22 +129,14 @@ fn visit_leaves<P: Pages>(
     out: &mut Vec<RtRow>,
 ) -> Result<(), PageFault>
     requires places { AscendWithin 0 (level_size (tree_of tree.rows) 0) places.now }
-    requires lent { AreLent (P.lent pages.old) tree.first tree.rows }
-    ensures same_lent { P.lent pages.new ≡ P.lent pages.old }
-    ensures same_contents { P.contents pages.new ≡ P.contents pages.old }
-    ensures later { P.fault_count pages.old ≤ P.fault_count pages.new }
-    ensures failed { IfErr result (λ fault. fault ≡ Failed → Rose (P.fault_count pages.old) (P.fault_count pages.new)) }
-    ensures went { WentAmong (P.lent pages.old) (P.asked pages.old pages.new) result (page_number (tree_of tree.rows) tree.first 0) places.now }
-    ensures damaged { WhereTold (P.contents pages.old) (λ contents. IfErr result (λ fault. (page : ℕ) → fault ≡ Damaged page → IsDamaged tree.first tree.rows contents page)) }
-    ensures tested { OnOk result (WhereTold (P.contents pages.old) (λ contents. All (IsTestedFor rect.now tree.first tree.rows contents) (map (page_number (tree_of tree.rows) tree.first 0) places.now))) }
+    requires lent { AreLent (P.lending pages.old).lent tree.first tree.rows }
+    ensures reads { ReadsLevel rect.now tree.first tree.rows P.lending P.asked pages.old pages.new (fault_of result) 0 places.now }
     ensures keeps { (more : List RtRow) × (out.new.items ≡ out.old.items ++ more) }
-    ensures told { (list : List RtRow) → IsShown (P.contents pages.old) tree.first tree.rows list
-        → MatchResult result (λ _. out.new.items ≡ out.old.items ++ flat_map (λ at. rows_inside rect.now (rows_below (tree_of tree.rows) list 0 at)) places.now) (λ fault. (page : ℕ) → fault ≢ Damaged page) }
+    ensures told { (list : List RtRow) → IsShown (P.lending pages.old).contents tree.first tree.rows list
+        → OnOk result (out.new.items ≡ out.old.items ++ flat_map (λ at. rows_inside rect.now (rows_below (tree_of tree.rows) list 0 at)) places.now) }
 {
     for i in 0..places.len() {
-        if let Err(fault) = visit_leaf::<P>(pages, tree, places[i], rect, buf, out) {
-            return Err(fault);
-        }
+        visit_leaf::<P>(pages, tree, places[i], rect, buf, out)?;
     }
     Ok(())
 }
@@ -187,31 +148,23 @@ fn add_found<P: Pages>(
     rect: &Rect,
     out: &mut Vec<RtRow>,
 ) -> Result<(), PageFault>
-    requires { AreLent (P.lent pages.old) tree.first tree.rows }
-    ensures same_lent { P.lent pages.new ≡ P.lent pages.old }
-    ensures same_contents { P.contents pages.new ≡ P.contents pages.old }
-    ensures later { P.fault_count pages.old ≤ P.fault_count pages.new }
-    ensures failed { IfErr result (λ fault. fault ≡ Failed → Rose (P.fault_count pages.old) (P.fault_count pages.new)) }
-    ensures damaged { WhereTold (P.contents pages.old) (λ contents. IfErr result (λ fault. (page : ℕ) → fault ≡ Damaged page → IsDamaged tree.first tree.rows contents page)) }
+    requires { AreLent (P.lending pages.old).lent tree.first tree.rows }
     ensures keeps { (more : List RtRow) × (out.new.items ≡ out.old.items ++ more) }
-    ensures found { (list : List RtRow) → IsShown (P.contents pages.old) tree.first tree.rows list
-        → MatchResult result (λ _. out.new.items ≡ out.old.items ++ rows_inside rect.now list) (λ fault. (page : ℕ) → fault ≢ Damaged page) }
-    ensures asked { (seen : List ℕ) × Went (P.lent pages.old) (P.asked pages.old pages.new) result seen × AllPairs (λ a b. a ≢ b) seen
-        × ((list : List RtRow) (root : ℕ) → IsShown (P.contents pages.old) tree.first tree.rows list → IsRoot (tree_of tree.rows) root
-        → GoesBy result seen (visited_pages (tree_of tree.rows) list rect.now tree.first root))
-        × OnOk result (WhereTold (P.contents pages.old) (λ contents. All (IsTestedFor rect.now tree.first tree.rows contents) seen)) }
+    ensures found { (list : List RtRow) → IsShown (P.lending pages.old).contents tree.first tree.rows list
+        → OnOk result (out.new.items ≡ out.old.items ++ rows_inside rect.now list) }
+    ensures reads { (seen : List ℕ) × ReadsTree rect.now tree.first tree.rows P.lending P.asked pages.old pages.new (fault_of result) seen × AllPairs (λ a b. a ≢ b) seen
+        × ((list : List RtRow) (root : ℕ) → IsShown (P.lending pages.old).contents tree.first tree.rows list → IsRoot (tree_of tree.rows) root
+        → GoesBy result seen (visited_pages (tree_of tree.rows) list rect.now tree.first root)) }
 {
     let alloc = *out.allocator();
     let mut buf = [0; PAGE_BYTES];
     let mut level = root_level(tree.rows);
     let mut places = Vec::new(alloc);
-    if places.push(0).is_err() {
-        return Err(PageFault::OutOfMemory);
-    }
+    places.push(0)?;
     while level > 0 {
         level -= 1;
         let mut next = Vec::new(alloc);
-        if let Err(fault) = visit_level::<P>(
+        visit_level::<P>(
             pages,
             tree,
             level,
@@ -219,9 +172,7 @@ fn add_found<P: Pages>(
             rect,
             &mut buf,
             &mut next,
-        ) {
-            return Err(fault);
-        }
+        )?;
         places = next;
     }
     visit_leaves::<P>(pages, tree, places.as_slice(), rect, &mut buf, out)
@@ -243,20 +194,14 @@ pub fn search<P: Pages>(
     rect: &Rect,
     out: &mut Vec<RtRow>,
 ) -> Result<(), PageFault>
-    requires { AreLent (P.lent pages.old) tree.first tree.rows }
-    ensures same_lent { P.lent pages.new ≡ P.lent pages.old }
-    ensures same_contents { P.contents pages.new ≡ P.contents pages.old }
-    ensures later { P.fault_count pages.old ≤ P.fault_count pages.new }
-    ensures failed { IfErr result (λ fault. fault ≡ Failed → Rose (P.fault_count pages.old) (P.fault_count pages.new)) }
-    ensures damaged { WhereTold (P.contents pages.old) (λ contents. IfErr result (λ fault. (page : ℕ) → fault ≡ Damaged page → IsDamaged tree.first tree.rows contents page)) }
+    requires { AreLent (P.lending pages.old).lent tree.first tree.rows }
     ensures put_back { OnErr result (out.new.items ≡ out.old.items) }
     ensures appends { (more : List RtRow) × (out.new.items ≡ out.old.items ++ more) }
-    ensures found { (list : List RtRow) → IsShown (P.contents pages.old) tree.first tree.rows list
+    ensures found { (list : List RtRow) → IsShown (P.lending pages.old).contents tree.first tree.rows list
         → MatchResult result (λ _. out.new.items ≡ out.old.items ++ rows_inside rect.now list) (λ fault. (page : ℕ) → fault ≢ Damaged page) }
-    ensures asked { (seen : List ℕ) × Went (P.lent pages.old) (P.asked pages.old pages.new) result seen × AllPairs (λ a b. a ≢ b) seen
-        × ((list : List RtRow) (root : ℕ) → IsShown (P.contents pages.old) tree.first tree.rows list → IsRoot (tree_of tree.rows) root
-        → GoesBy result seen (visited_pages (tree_of tree.rows) list rect.now tree.first root))
-        × OnOk result (WhereTold (P.contents pages.old) (λ contents. All (IsTestedFor rect.now tree.first tree.rows contents) seen)) }
+    ensures reads { (seen : List ℕ) × ReadsTree rect.now tree.first tree.rows P.lending P.asked pages.old pages.new (fault_of result) seen × AllPairs (λ a b. a ≢ b) seen
+        × ((list : List RtRow) (root : ℕ) → IsShown (P.lending pages.old).contents tree.first tree.rows list → IsRoot (tree_of tree.rows) root
+        → GoesBy result seen (visited_pages (tree_of tree.rows) list rect.now tree.first root)) }
 {
     let kept = out.len();
     match add_found::<P>(pages, tree, rect, out) {
