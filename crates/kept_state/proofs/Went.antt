@@ -10,7 +10,7 @@ use Rattle.dev_model.specs.Moments.{ReadsWithin}
 use Rattle.dev_model.specs.declared.page_faults.PageFault.{PageFault}
 use Rattle.dev_model.specs.declared.page_faults.PageFault.TheVariants.{Failed, Damaged, OutOfMemory}
 use Rattle.dev_model.specs.Asked.{Went, fault_of, reads_of, given_but_last, GoesBy, OnDamaged, OnGiven}
-use Rattle.device_pages.specs.Asked.{Seen, Asked, seen, calls_of, pages_of}
+use Rattle.device_pages.specs.Asked.{Asked, calls_of, pages_of}
 use Rattle.device_pages.specs.Lending.{contents_of}
 use Rattle.device_pages.specs.Lent.{is_lent}
 use Rattle.device_pages.specs.Laws.Asked.{asked-none, story-asked, ok_calls-asked, pages_of-given, ReadsWithin-asked}
@@ -52,21 +52,21 @@ module _ (l : Lists) where
         any_moment = λ log table kept. images-reads (IsPageIn l) s new.story run old.pages log table kept.held.rests;
       }
 
-module _ {D : Type 0} (pages clock : D → ℕ) (story : D → Option Story) {X : Type 0} (result : Result X PageFault) where
+module _ {D : Type 0} (seen : D → DeviceState) {X : Type 0} (result : Result X PageFault) where
   -- what a reader of some trees on lent pages of a device did
   pub record WentOver (extents : List Extent) (trees : List PrimComp) (old new : D) (way : List PrimComp → List (List PrimRow) → (roots : List ℕ) → List ℕ) : Type 0 where
     pub asked : List ℕ
-    pub went : Went (is_lent extents) (λ reads. Asked reads (seen pages clock story old) (seen pages clock story new)) result asked
-    pub damaged : OnDamaged (fault_of result) (λ page. WhereTold (contents_of extents (story old)) (λ contents. IsDamagedIn trees contents page))
-    pub tested : OnGiven (fault_of result) (WhereTold (contents_of extents (story old)) (λ contents. All (IsTestedIn trees contents) asked))
-    pub goes : (disk : List (List PrimRow)) (roots : List ℕ) → AreShown (contents_of extents (story old)) trees disk → AreRoots trees roots → GoesBy result asked (way trees disk roots)
+    pub went : Went (is_lent extents) (λ reads. Asked reads (seen old) (seen new)) result asked
+    pub damaged : OnDamaged (fault_of result) (λ page. WhereTold (contents_of extents (seen old).story) (λ contents. IsDamagedIn trees contents page))
+    pub tested : OnGiven (fault_of result) (WhereTold (contents_of extents (seen old).story) (λ contents. All (IsTestedIn trees contents) asked))
+    pub goes : (disk : List (List PrimRow)) (roots : List ℕ) → AreShown (contents_of extents (seen old).story) trees disk → AreRoots trees roots → GoesBy result asked (way trees disk roots)
 
-  module _ (l : Lists) (counted : (device : D) (s : Story) → story device ≡ Some s → clock device ≡ clock_of s) where
+  module _ (l : Lists) (counted : (device : D) (s : Story) → (seen device).story ≡ Some s → (seen device).clock ≡ clock_of s) where
     -- it read the components of a store, where these were the trees
     pub read-lent : (extents : List Extent) (trees : List PrimComp) (old first next new : D) (way : List PrimComp → List (List PrimRow) → (roots : List ℕ) → List ℕ)
         (whole : List (List PrimRow) → (roots : List ℕ) → List ℕ) → extents ≡ extents_of l.components → trees ≡ trees_of l.components → first ≡ old → next ≡ new
         → ((disk : List (List PrimRow)) (roots : List ℕ) → way (trees_of l.components) disk roots ≡ whole disk roots)
-        → WentOver extents trees first next way → HasReadAlong l (seen pages clock story old) (seen pages clock story new) result whole
+        → WentOver extents trees first next way → HasReadAlong l (seen old) (seen new) result whole
     read-lent extents trees old first next new way whole lends are begins ends same over =
         let there : WentOver (extents_of l.components) (trees_of l.components) old new way =
         subst (λ (d : D). WentOver (extents_of l.components) (trees_of l.components) old d way) ends
@@ -78,8 +78,8 @@ module _ {D : Type 0} (pages clock : D → ℕ) (story : D → Option Story) {X 
           record {
             went = there.went;
             made = λ s told. record {
-              calls = calls_of (clock old) reads;
-              told = story-asked reads (seen pages clock story old) (seen pages clock story new) s there.went.asked_for told;
+              calls = calls_of (seen old).clock reads;
+              told = story-asked reads (seen old) (seen new) s there.went.asked_for told;
               made = (λ j. ok_calls (clock_of s) (calls_of (counted old s told j) reads)) ∙ ok_calls-asked (clock_of s) reads;
             };
             damaged = there.damaged;
@@ -89,11 +89,11 @@ module _ {D : Type 0} (pages clock : D → ℕ) (story : D → Option Story) {X 
         )
 
 -- no page was asked for
-pub went-nowhere : {D : Type 0} (pages clock : D → ℕ) (story : D → Option Story) {X : Type 0} (x : X) (extents : List Extent) (trees : List PrimComp) (device : D)
-    → WentOver pages clock story (Ok x) extents trees device device (λ trees disk roots. [])
-went-nowhere pages clock story x extents trees device = record {
+pub went-nowhere : {D : Type 0} (seen : D → DeviceState) {X : Type 0} (x : X) (extents : List Extent) (trees : List PrimComp) (device : D)
+    → WentOver seen (Ok x) extents trees device device (λ trees disk roots. [])
+went-nowhere seen x extents trees device = record {
   asked = [];
-  went = record { asked_for = asked-none (seen pages clock story device); are_lent = All-nil (λ page. IsTrue (is_lent extents page)); stops = tt };
+  went = record { asked_for = asked-none (seen device); are_lent = All-nil (λ page. IsTrue (is_lent extents page)); stops = tt };
   damaged = tt;
   tested = λ contents told. All-nil (IsTestedIn trees contents);
   goes = λ disk roots shown at. refl;

@@ -4,7 +4,6 @@ ghost use Rattle.std.specs.Prelude.{◌≡◌, ◌≢◌, ◌≤◌, List, ◌�
 ghost use Rattle.dev_model.specs.Counts.{Rose};
 ghost use Rattle.dev_model.specs.Story.{WhereTold};
 ghost use Rattle.dev_model.specs.declared.page_faults.PageFault.TheVariants.{Failed, OutOfMemory};
-ghost use Rattle.device_pages.specs.Asked.{seen};
 ghost use Rattle.device_pages.specs.Lending.{contents_of};
 ghost use Rattle.order_merge.specs.Entries.{newest_at};
 ghost use Rattle.order_merge.specs.Ascending.{Ascends};
@@ -40,10 +39,10 @@ fn find_row<D: Device>(
     ensures later { (D.seen device.old).faults ≤ (D.seen device.new).faults }
     ensures failed { IfErr result (λ fault. fault ≡ Failed → Rose (D.seen device.old).faults (D.seen device.new).faults) }
     ensures needs_no_memory { IfErr result (λ fault. fault ≢ OutOfMemory) }
-    ensures found { (disk : List (List PrimRowModel)) → AreShown (contents_of (extents_of state.now.0.components) (D.story device.old)) (trees_of state.now.0.components) disk
+    ensures found { (disk : List (List PrimRowModel)) → AreShown (contents_of (extents_of state.now.0.components) (D.seen device.old).story) (trees_of state.now.0.components) disk
         → MatchResult result (λ found. found ≡ newest_at prim_reading (lists_of state.now.0.active state.now.0.frozen disk) key) (λ fault. fault ≡ Failed) }
     ensures memory { IfSome (in_memory state.now.0.active state.now.0.frozen key) (λ row. (result ≡ Ok (Some row)) × (device.new ≡ device.old)) }
-    ensures asked { HasReadAlong state.now.0 (seen D.pages D.clock D.story device.old) (seen D.pages D.clock D.story device.new) result (λ disk roots. view_pages key state.now.0.active state.now.0.frozen (trees_of state.now.0.components) disk roots) }
+    ensures asked { HasReadAlong state.now.0 (D.seen device.old) (D.seen device.new) result (λ disk roots. view_pages key state.now.0.active state.now.0.frozen (trees_of state.now.0.components) disk roots) }
 {
     let components = state.components();
     if let Some(row) = state.in_memory(key) {
@@ -82,7 +81,7 @@ pub fn read_row<D: Device>(
     ensures failed { IfErr result (λ fault. fault ≡ Failed → Rose (D.seen device.old).faults (D.seen device.new).faults) }
     ensures later { (D.seen device.old).faults ≤ (D.seen device.new).faults }
     ensures needs_no_memory { IfErr result (λ fault. fault ≢ OutOfMemory) }
-    ensures asked { HasReadAlong state.now.0 (seen D.pages D.clock D.story device.old) (seen D.pages D.clock D.story device.new) result (λ disk roots. view_pages key state.now.0.active state.now.0.frozen (trees_of state.now.0.components) disk roots) }
+    ensures asked { HasReadAlong state.now.0 (D.seen device.old) (D.seen device.new) result (λ disk roots. view_pages key state.now.0.active state.now.0.frozen (trees_of state.now.0.components) disk roots) }
 
     ensures stays { WhereTold (D.seen device.old).story (λ s. IsOnlyRead (D.seen device.old).pages state.now.0 s (D.seen device.new).story) }
     ensures same_pages { (D.seen device.new).pages ≡ (D.seen device.old).pages }
@@ -105,9 +104,9 @@ pub fn read_rows<D: Device>(
     ensures rows { (table : Table) (disk : List (List PrimRowModel)) → WhereTold (D.seen device.old).story (λ s. IsLegible table disk state.now.0 s
         → MatchResult result (λ rows. rows.items ≡ table_rows table) (λ fault. (fault ≡ Failed) ⊎ (fault ≡ OutOfMemory))) }
     ensures ascends { IfOk result (λ rows. Ascends prim_reading rows.items) }
-    ensures failed { IfErr result (λ fault. fault ≡ Failed → Rose (D.fault_count device.old) (D.fault_count device.new)) }
-    ensures later { D.fault_count device.old ≤ D.fault_count device.new }
-    ensures asked { HasReadAlong state.now.0 (seen D.pages D.clock D.story device.old) (seen D.pages D.clock D.story device.new) result (λ disk roots. all_pages (trees_of state.now.0.components) roots) }
+    ensures failed { IfErr result (λ fault. fault ≡ Failed → Rose (D.seen device.old).faults (D.seen device.new).faults) }
+    ensures later { (D.seen device.old).faults ≤ (D.seen device.new).faults }
+    ensures asked { HasReadAlong state.now.0 (D.seen device.old) (D.seen device.new) result (λ disk roots. all_pages (trees_of state.now.0.components) roots) }
 
     ensures stays { WhereTold (D.seen device.old).story (λ s. IsOnlyRead (D.seen device.old).pages state.now.0 s (D.seen device.new).story) }
     ensures same_pages { (D.seen device.new).pages ≡ (D.seen device.old).pages }

@@ -23,7 +23,6 @@ use Rattle.wal_log.specs.declared.records.Record.{Record}
 use Rattle.store_state.specs.OnlyRead.{HasRead}
 use Rattle.kept_state.specs.Writing.{next_record}
 use Rattle.store_machine.specs.Laws.LogCalls.{append-calls}
-use Rattle.store_machine.specs.Laws.Reading.{seen_of}
 use Rattle.store_machine.specs.Standing.{StoreState}
 use Rattle.dev_model.specs.Story.{DeviceState}
 use Rattle.store_machine.specs.declared.events.Refusal.{Refusal}
@@ -62,22 +61,22 @@ read-before pages s mid now log r made width did =
     }
 
 module _ (old : StoreState) (now : DeviceState) where
-  pub tested : {X Y : Type 0} (x : X) (y : Y) (pages : List ℕ) → HasRead old.lists (seen_of old.device) (seen_of now) (Ok x) pages → TestsPages old now (Ok y)
+  pub tested : {X Y : Type 0} (x : X) (y : Y) (pages : List ℕ) → HasRead old.lists old.device now (Ok x) pages → TestsPages old now (Ok y)
   tested x y pages read s told contents is = (pages, read-pages pages s now.story (read.made s told), read.tested contents is)
 
   -- with a write behind the reads
-  pub tested-before : {X Y : Type 0} (mid : DeviceState) (x : X) (y : Y) (pages : List ℕ) (log : Log) (r : Record) → HasRead old.lists (seen_of old.device) (seen_of mid) (Ok x) pages
+  pub tested-before : {X Y : Type 0} (mid : DeviceState) (x : X) (y : Y) (pages : List ℕ) (log : Log) (r : Record) → HasRead old.lists old.device mid (Ok x) pages
       → length (record_bytes r) ≡ 95 → now.story ≡ all_noted (append_calls log r) mid.story → TestsPages old now (Ok y)
   tested-before mid x y pages log r read width did s told contents is = (pages, read-before pages s mid.story now.story log r (read.made s told) width did, read.tested contents is)
 
-  pub damaged : {X : Type 0} (Y : Type 0) (fault : PageFault) (pages : List ℕ) → HasRead {X = X} old.lists (seen_of old.device) (seen_of now) (Err fault) pages
+  pub damaged : {X : Type 0} (Y : Type 0) (fault : PageFault) (pages : List ℕ) → HasRead {X = X} old.lists old.device now (Err fault) pages
       → TestsPages {X = Y} old now (Err (refusal_of fault))
   damaged Y page.Failed pages read s told contents is = tt
   damaged Y (page.Damaged n) pages read s told contents is = (pages, read-pages pages s now.story (read.made s told), read.went.stops, read.damaged contents is)
   damaged Y page.OutOfMemory pages read s told contents is = tt
 
 -- a write behind the read of its row
-pub tested-write : (old : StoreState) (mid now : DeviceState) (op : LogOp) (row : Option Row) (result : Result Wrote Refusal) (pages : List ℕ) → HasRead old.lists (seen_of old.device) (seen_of mid) (Ok row) pages
+pub tested-write : (old : StoreState) (mid now : DeviceState) (op : LogOp) (row : Option Row) (result : Result Wrote Refusal) (pages : List ℕ) → HasRead old.lists old.device mid (Ok row) pages
     → OnOk result (HasAppended (record old { device = mid }) now op row) → IfErr result (λ refusal. refusal ≡ Fault) → TestsPages old now result
 tested-write old mid now op row (Ok wrote) pages read logged fault = tested-before old now mid row wrote pages old.log (next_record old.log op (old_point row)) read logged.width logged.did
 tested-write old mid now op row (Err refusal) pages read logged fault = subst (λ (r : Refusal). TestsPages {X = Wrote} old now (Err r)) (sym fault) (λ s told contents is. tt)

@@ -5,7 +5,7 @@ use Rattle.dev_model.specs.Story.{DeviceState, Story, WhereTold, IsImageNow}
 use Rattle.table_model.specs.Table.{Table}
 use Rattle.wal_log.specs.declared.log.Log.{Log}
 use Rattle.dev_model.specs.Asked.{Went, fault_of, reads_of, GoesBy, OnDamaged, OnGiven}
-use Rattle.device_pages.specs.Asked.{Seen, Asked}
+use Rattle.device_pages.specs.Asked.{Asked}
 use Rattle.device_pages.specs.Claims.{MadeReads}
 use Rattle.device_pages.specs.Lending.{contents_of}
 use Rattle.device_pages.specs.Lent.{is_lent}
@@ -31,14 +31,14 @@ pub record IsPageIn (l : Lists) (at count : ℕ) : Type 0 where
 -- A reader asked for these pages of the components, in one list, stopped at the first that it could not use, and did nothing
 -- else. Where the device tells, the calls that succeeded are the reads of the pages that were given. A page that it gives as
 -- damaged is none for its place, and without a fault each page has the header of its place.
-pub record HasRead {X : Type 0} (l : Lists) (old new : Seen) (result : Result X PageFault) (pages : List ℕ) : Type 0 where
+pub record HasRead {X : Type 0} (l : Lists) (old new : DeviceState) (result : Result X PageFault) (pages : List ℕ) : Type 0 where
   pub went : Went (is_lent (extents_of l.components)) (λ asked. Asked asked old new) result pages
   pub made : WhereTold old.story (λ s. MadeReads (reads_of result pages) s new.story)
   pub damaged : OnDamaged (fault_of result) (λ page. WhereTold (contents_of (extents_of l.components) old.story) (λ contents. IsDamagedIn (trees_of l.components) contents page))
   pub tested : OnGiven (fault_of result) (WhereTold (contents_of (extents_of l.components) old.story) (λ contents. All (IsTestedIn (trees_of l.components) contents) pages))
 
 -- And where the pages show lists, those of a way, or with a fault the first few of them.
-abbrev pub HasReadAlong : {X : Type 0} → Lists → (old new : Seen) → Result X PageFault → (way : List (List PrimRow) → (roots : List ℕ) → List ℕ) → Type 0
+abbrev pub HasReadAlong : {X : Type 0} → Lists → (old new : DeviceState) → Result X PageFault → (way : List (List PrimRow) → (roots : List ℕ) → List ℕ) → Type 0
 HasReadAlong l old new result way = (pages : List ℕ) × HasRead l old new result pages
     × ((disk : List (List PrimRow)) (roots : List ℕ) → AreShown (contents_of (extents_of l.components) old.story) (trees_of l.components) disk → AreRoots (trees_of l.components) roots → GoesBy result pages (way disk roots))
 

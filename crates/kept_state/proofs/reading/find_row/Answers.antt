@@ -12,9 +12,9 @@ pub returns-in-Some-clause-asked : goal.returns-in-Some-clause-asked
 returns-in-Some-clause-asked g c =
     let D = g.D.Device in
     let d = c.args.device.now in
-    read-lent D.pages D.clock D.story _ c.args.state.now.0 g.met.D.Device.clock_told _ _ d d d d _ _ refl refl refl refl
+    read-lent D.seen _ c.args.state.now.0 g.met.D.Device.clock_told _ _ d d d d _ _ refl refl refl refl
     (λ disk roots. pages-memory c.args.state.now.0.active c.args.state.now.0.frozen c.args.key c.in-Some.row c.in-Some.ensures _ disk roots)
-    (went-nowhere D.pages D.clock D.story _ _ _ d)
+    (went-nowhere D.seen _ _ _ d)
 
 pub returns-clause-found : goal.returns-clause-found
 returns-clause-found g c disk shown =
@@ -28,7 +28,7 @@ pub returns-clause-asked : goal.returns-clause-asked
 returns-clause-asked g c =
     let D = g.D.Device in
     let there = c.lookup_disk.ensures.reads in
-    read-lent D.pages D.clock D.story c.lookup_disk.result c.args.state.now.0 g.met.D.Device.clock_told c.new-pages.result.extents.now _
+    read-lent D.seen c.lookup_disk.result c.args.state.now.0 g.met.D.Device.clock_told c.new-pages.result.extents.now _
     c.args.device.now c.new-pages.result.device.now c.lookup_disk.new.pages.device.now _ (lookup_pages c.args.key) _
     (c.new-pages.ensures.extents ∙ c.extents.ensures.extents) c.components-components.ensures.trees c.new-pages.ensures.untouched (search rules)
     (λ disk roots. pages-disk c.args.state.now.0.active c.args.state.now.0.frozen c.args.key c.in_default.ensures _ disk roots)

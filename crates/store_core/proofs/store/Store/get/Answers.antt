@@ -16,7 +16,7 @@ returns-in-Ok-clause-event g c =
     let old : StoreState = state_of g.D.Device.seen c.args.self.now in
     let now : DeviceState = g.D.Device.seen c.read_row.new.device in
     got-as old _ now c.args.owner c.args.key c.draw-seq.result c.in-Ok.row c.in-Ok.ensures.asked.0 c.draw-seq.ensures.seq
-    (ap (state_of g.D.Device.pages g.D.Device.clock g.D.Device.fault_count g.D.Device.story) c.draw-seq.ensures.rest)
+    (ap (state_of g.D.Device.seen) c.draw-seq.ensures.rest)
     (reads-row old now c.args.key _ c.in-Ok.ensures.asked.0 c.in-Ok.ensures.asked.1 c.in-Ok.ensures.asked.2 c.in-Ok.ensures.stays c.in-Ok.ensures.same_pages c.in-Ok.ensures.later (λ s is. g.met.D.Device.clock_told _ s is) c.in-Ok.ensures.row)
 
 pub returns-in-Err-clause-event : goal.returns-in-Err-clause-event
@@ -31,9 +31,9 @@ returns-in-Err-clause-event g c =
 pub returns-in-Ok-clause-pages : goal.returns-in-Ok-clause-pages
 returns-in-Ok-clause-pages g c =
     let y : Got = record { seq = c.draw-seq.result; row = c.in-Ok.row } in
-    let old : StoreState = state_of g.D.Device.pages g.D.Device.clock g.D.Device.fault_count g.D.Device.story c.args.self.now in
-    let now : DeviceState = device_of g.D.Device.pages g.D.Device.clock g.D.Device.fault_count g.D.Device.story c.read_row.new.device in
-    subst (λ (d : DeviceState). TestsPages {X = Got} old d (Ok y)) (sym (ap (λ (s : StoreState). s.device) (ap (state_of g.D.Device.pages g.D.Device.clock g.D.Device.fault_count g.D.Device.story) c.draw-seq.ensures.rest)))
+    let old : StoreState = state_of g.D.Device.seen c.args.self.now in
+    let now : DeviceState = g.D.Device.seen c.read_row.new.device in
+    subst (λ (d : DeviceState). TestsPages {X = Got} old d (Ok y)) (sym (ap (λ (s : StoreState). s.device) (ap (state_of g.D.Device.seen) c.draw-seq.ensures.rest)))
     (tested old now c.in-Ok.row y c.in-Ok.ensures.asked.0 c.in-Ok.ensures.asked.1)
 
 pub returns-in-Err-clause-pages : goal.returns-in-Err-clause-pages

@@ -17,8 +17,8 @@ returns-then-not-has-clause-event g c =
 
 pub returns-in-Err-clause-event : goal.returns-in-Err-clause-event
 returns-in-Err-clause-event g c =
-    not-read (state_of g.D.Device.pages g.D.Device.clock g.D.Device.fault_count g.D.Device.story c.args.self.now)
-    (device_of g.D.Device.pages g.D.Device.clock g.D.Device.fault_count g.D.Device.story c.read_rows.new.device) c.in-Err.fault c.refused.result c.in-Err.ensures.asked.0 c.args.owner c.args.kind c.args.rect.now
+    not-read (state_of g.D.Device.seen c.args.self.now)
+    (g.D.Device.seen c.read_rows.new.device) c.in-Err.fault c.refused.result c.in-Err.ensures.asked.0 c.args.owner c.args.kind c.args.rect.now
     (read-facts _ _ _ c.in-Err.ensures.asked.0 c.in-Err.ensures.asked.1 c.in-Err.ensures.asked.2 c.in-Err.ensures.stays c.in-Err.ensures.same_pages c.in-Err.ensures.later (g.met.D.Device.clock_told c.read_rows.new.device))
     (λ table disk s is legible. sound-rows c.in-Err.fault (c.in-Err.ensures.rows table disk s is legible))
     c.in-Err.ensures.failed (sym c.has.ensures ∙ c.if-not-has.false) c.refused.ensures
@@ -35,8 +35,8 @@ returns-in-Ok-inside-clause-event g c =
 
 pub returns-clause-event : goal.returns-clause-event
 returns-clause-event g c =
-    no-memory (state_of g.D.Device.pages g.D.Device.clock g.D.Device.fault_count g.D.Device.story c.args.self.now)
-    (device_of g.D.Device.pages g.D.Device.clock g.D.Device.fault_count g.D.Device.story c.read_rows.new.device) _ c.in-Ok.ensures.asked.0 c.args.owner c.args.kind c.args.rect.now
+    no-memory (state_of g.D.Device.seen c.args.self.now)
+    (g.D.Device.seen c.read_rows.new.device) _ c.in-Ok.ensures.asked.0 c.args.owner c.args.kind c.args.rect.now
     (read-facts _ _ _ c.in-Ok.ensures.asked.0 c.in-Ok.ensures.asked.1 c.in-Ok.ensures.asked.2 c.in-Ok.ensures.stays c.in-Ok.ensures.same_pages c.in-Ok.ensures.later (g.met.D.Device.clock_told c.read_rows.new.device))
     refl (sym c.has.ensures ∙ c.if-not-has.false)
 
@@ -50,7 +50,7 @@ returns-in-Err-clause-pages g c =
 pub returns-in-Ok-inside-clause-pages : goal.returns-in-Ok-inside-clause-pages
 returns-in-Ok-inside-clause-pages g c =
     let y : RegionRows = record { seq = c.draw-seq.result; rows = c.in-Ok-inside.rows } in
-    let old : StoreState = state_of g.D.Device.pages g.D.Device.clock g.D.Device.fault_count g.D.Device.story c.args.self.now in
-    let now : DeviceState = device_of g.D.Device.pages g.D.Device.clock g.D.Device.fault_count g.D.Device.story c.read_rows.new.device in
-    subst (λ (d : DeviceState). TestsPages {X = RegionRows} old d (Ok y)) (sym (ap (λ (s : StoreState). s.device) (ap (state_of g.D.Device.pages g.D.Device.clock g.D.Device.fault_count g.D.Device.story) c.draw-seq.ensures.rest)))
+    let old : StoreState = state_of g.D.Device.seen c.args.self.now in
+    let now : DeviceState = g.D.Device.seen c.read_rows.new.device in
+    subst (λ (d : DeviceState). TestsPages {X = RegionRows} old d (Ok y)) (sym (ap (λ (s : StoreState). s.device) (ap (state_of g.D.Device.seen) c.draw-seq.ensures.rest)))
     (tested old now c.in-Ok.rows y c.in-Ok.ensures.asked.0 c.in-Ok.ensures.asked.1)

@@ -51,7 +51,7 @@ returns-then-has_to_log-clause-event g c =
     let read : ReadsRow room now (key_of c.args.op.now) (Ok c.in-Ok.row) c.in-Ok.ensures.asked.0 =
     subst (λ (key : ℕ). ReadsRow room now key (Ok c.in-Ok.row) c.in-Ok.ensures.asked.0) c.key_of.ensures
     (reads-row room now c.key_of.result _ c.in-Ok.ensures.asked.0 c.in-Ok.ensures.asked.1 c.in-Ok.ensures.asked.2 c.in-Ok.ensures.stays c.in-Ok.ensures.same_pages c.in-Ok.ensures.later (λ s is. g.met.D.Device.clock_told _ s is) c.in-Ok.ensures.row) in
-    let new : StoreState = state_of g.D.Device.pages g.D.Device.clock g.D.Device.fault_count g.D.Device.story c.write_over.new.self in
+    let new : StoreState = state_of g.D.Device.seen c.write_over.new.self in
     subst (λ (s : StoreState). Makes s new c.args.owner (Write c.args.op.now c.write_over.result)) c.make_room.ensures.same
     (c.write_over.ensures.event room c.args.owner (was-read room now (key_of c.args.op.now) c.in-Ok.row c.in-Ok.ensures.asked.0 read))
 
@@ -62,7 +62,7 @@ returns-else-has_to_log-clause-event g c =
     let read : ReadsRow room now (key_of c.args.op.now) (Ok c.in-Ok.row) c.in-Ok.ensures.asked.0 =
     subst (λ (key : ℕ). ReadsRow room now key (Ok c.in-Ok.row) c.in-Ok.ensures.asked.0) c.key_of.ensures
     (reads-row room now c.key_of.result _ c.in-Ok.ensures.asked.0 c.in-Ok.ensures.asked.1 c.in-Ok.ensures.asked.2 c.in-Ok.ensures.stays c.in-Ok.ensures.same_pages c.in-Ok.ensures.later (λ s is. g.met.D.Device.clock_told _ s is) c.in-Ok.ensures.row) in
-    let new : StoreState = state_of g.D.Device.pages g.D.Device.clock g.D.Device.fault_count g.D.Device.story c.nothing_there.new.self in
+    let new : StoreState = state_of g.D.Device.seen c.nothing_there.new.self in
     subst (λ (s : StoreState). Makes s new c.args.owner (Write c.args.op.now (Ok c.nothing_there.result))) c.make_room.ensures.same
     (nothing-there room (record room { device = now }) new c.args.owner c.args.op.now c.in-Ok.row c.nothing_there.result (was-read room now (key_of c.args.op.now) c.in-Ok.row c.in-Ok.ensures.asked.0 read)
     (subst CanWrite (sym c.make_room.ensures.same) c.in_default.ensures.can) (sym c.has_to_log.ensures ∙ c.if-has_to_log.false) c.nothing_there.ensures.wrote
@@ -93,5 +93,5 @@ returns-else-has_to_log-clause-pages g c =
     let mid : DeviceState = g.D.Device.seen c.read_row.new.device in
     let now : DeviceState = g.D.Device.seen c.nothing_there.new.self.device in
     subst (λ (s : StoreState). TestsPages s now (Ok c.nothing_there.result)) c.make_room.ensures.same
-    (subst (λ (d : DeviceState). TestsPages room d (Ok c.nothing_there.result)) (sym (ap (λ (s : StoreState). s.device) (ap (state_of g.D.Device.pages g.D.Device.clock g.D.Device.fault_count g.D.Device.story) c.nothing_there.ensures.rest)))
+    (subst (λ (d : DeviceState). TestsPages room d (Ok c.nothing_there.result)) (sym (ap (λ (s : StoreState). s.device) (ap (state_of g.D.Device.seen) c.nothing_there.ensures.rest)))
     (tested room mid c.in-Ok.row c.nothing_there.result c.in-Ok.ensures.asked.0 c.in-Ok.ensures.asked.1))
