@@ -1,14 +1,13 @@
 // The directory as it is found on a device, read page by page.
 ghost use Rattle.std.specs.Prelude.{◌≡◌, ◌+◌, ◌*◌, ◌<◌, ◌≤◌, ℕ, IfOk, IfErr, OnOk};
 ghost use Rattle.dev_model.specs.Counts.{HasCause};
-ghost use Rattle.dev_model.specs.Story.{Bytes, WhereTold, bytes_of};
+ghost use Rattle.dev_model.specs.Story.{Bytes};
 ghost use Rattle.dev_model.specs.Doing.{Ticks};
-ghost use Rattle.comp_dir.specs.Reads.{ReadsDirectory};
+ghost use Rattle.comp_dir.specs.Reads.{OnlyReadsDirectory, WhereAtRest};
 ghost use Rattle.comp_dir.specs.Directory.{directory_of, open_slots};
 ghost use Rattle.comp_dir.specs.Rules.{AllObey};
 ghost use Rattle.comp_dir.specs.Bad.{IsFirstUnsound};
 ghost use Rattle.comp_dir.specs.Faults.{WhereBad, HasCauseOfFault, IsNotFailed};
-ghost use Rattle.comp_dir.specs.Resting.{IsAtRest};
 ghost use Rattle.comp_dir.specs.Found.{slot_in, Shows, IsFine, with_open, AreLawful, HasFound, IsUnsoundAt};
 
 use crate::faults::DirFault;
@@ -106,8 +105,8 @@ fn read_page<D: Device>(
 ) -> Result<(), Failed>
     requires below { number < SLOT_PAGES }
     requires pages { DIRECTORY_PAGES ≤ (D.seen device.old).pages }
-    ensures shows { OnOk result (WhereTold (D.seen device.old).story (λ s. IsAtRest s → Shows (PAGE_SLOTS * number) page.new (bytes_of s))) }
-    ensures reads { WhereTold (D.seen device.old).story (λ s. ReadsDirectory s (D.seen device.new).story) }
+    ensures shows { OnOk result (WhereAtRest (D.seen device.old) (λ bytes. Shows (PAGE_SLOTS * number) page.new bytes)) }
+    ensures reads { OnlyReadsDirectory (D.seen device.old) (D.seen device.new) }
     ensures ticks { Ticks 1 (D.seen device.old).clock (D.seen device.new).clock result }
     ensures same_pages { (D.seen device.new).pages ≡ (D.seen device.old).pages }
     ensures cause { HasCause (D.seen device.old).faults (D.seen device.new).faults result }
@@ -127,13 +126,13 @@ fn add_next_page<D: Device>(
 ) -> Result<(), DirFault>
     requires below { number < SLOT_PAGES }
     requires pages { DIRECTORY_PAGES ≤ (D.seen device.old).pages }
-    ensures added { OnOk result (WhereTold (D.seen device.old).story (λ s. IsAtRest s → HasFound asked.now.pages asked.now.declared (PAGE_SLOTS * number) (bytes_of s) found.old.items
-        → HasFound asked.now.pages asked.now.declared (PAGE_SLOTS * number + PAGE_SLOTS) (bytes_of s) found.new.items)) }
+    ensures added { OnOk result (WhereAtRest (D.seen device.old) (λ bytes. HasFound asked.now.pages asked.now.declared (PAGE_SLOTS * number) bytes found.old.items
+        → HasFound asked.now.pages asked.now.declared (PAGE_SLOTS * number + PAGE_SLOTS) bytes found.new.items)) }
     ensures lawful { OnOk result (AreLawful asked.now.pages asked.now.declared (PAGE_SLOTS * number) found.old.items
         → AreLawful asked.now.pages asked.now.declared (PAGE_SLOTS * number + PAGE_SLOTS) found.new.items) }
-    ensures bad { IfErr result (λ fault. WhereBad fault (λ n. WhereTold (D.seen device.old).story (λ s. IsAtRest s
-        → HasFound asked.now.pages asked.now.declared (PAGE_SLOTS * number) (bytes_of s) found.old.items → IsUnsoundAt asked.now.pages asked.now.declared (bytes_of s) n))) }
-    ensures reads { WhereTold (D.seen device.old).story (λ s. ReadsDirectory s (D.seen device.new).story) }
+    ensures bad { IfErr result (λ fault. WhereBad fault (λ n. WhereAtRest (D.seen device.old) (λ bytes.
+        HasFound asked.now.pages asked.now.declared (PAGE_SLOTS * number) bytes found.old.items → IsUnsoundAt asked.now.pages asked.now.declared bytes n))) }
+    ensures reads { OnlyReadsDirectory (D.seen device.old) (D.seen device.new) }
     ensures ticks { Ticks 1 (D.seen device.old).clock (D.seen device.new).clock result }
     ensures same_pages { (D.seen device.new).pages ≡ (D.seen device.old).pages }
     ensures cause { HasCauseOfFault (D.seen device.old).faults (D.seen device.new).faults result }
@@ -155,14 +154,14 @@ pub fn read_dir<D: Device>(
     requires { DIRECTORY_PAGES ≤ (D.seen device.old).pages }
 
     // Of a directory that is on the disk.
-    ensures slots { IfOk result (λ found. WhereTold (D.seen device.old).story (λ s. IsAtRest s → found.items ≡ open_slots (directory_of (bytes_of s)))) }
-    ensures obeyed { OnOk result (WhereTold (D.seen device.old).story (λ s. IsAtRest s → AllObey (D.seen device.old).pages declared (directory_of (bytes_of s)))) }
-    ensures bad { IfErr result (λ fault. WhereBad fault (λ n. WhereTold (D.seen device.old).story (λ s. IsAtRest s
-        → IsFirstUnsound (D.seen device.old).pages declared (directory_of (bytes_of s)) n))) }
+    ensures slots { IfOk result (λ found. WhereAtRest (D.seen device.old) (λ bytes. found.items ≡ open_slots (directory_of bytes))) }
+    ensures obeyed { OnOk result (WhereAtRest (D.seen device.old) (λ bytes. AllObey (D.seen device.old).pages declared (directory_of bytes))) }
+    ensures bad { IfErr result (λ fault. WhereBad fault (λ n. WhereAtRest (D.seen device.old) (λ bytes.
+        IsFirstUnsound (D.seen device.old).pages declared (directory_of bytes) n))) }
 
     // Of each device.
     ensures lawful { IfOk result (λ found. AreLawful (D.seen device.old).pages declared SLOTS found.items) }
-    ensures reads { WhereTold (D.seen device.old).story (λ s. ReadsDirectory s (D.seen device.new).story) }
+    ensures reads { OnlyReadsDirectory (D.seen device.old) (D.seen device.new) }
     ensures ticks { Ticks SLOT_PAGES (D.seen device.old).clock (D.seen device.new).clock result }
     ensures same_pages { (D.seen device.new).pages ≡ (D.seen device.old).pages }
     ensures cause { HasCauseOfFault (D.seen device.old).faults (D.seen device.new).faults result }

@@ -2,7 +2,7 @@
 -- (`WhereBad`, `HasCauseOfFault`).
 use Rattle.std.specs.Prelude.{◌≡◌, ◌≢◌, ◌%◌, take, drop, get_or, ℕ, ◌+◌, ◌-◌, ◌<◌, ◌≤◌, ◌⊎◌, List, ◌++◌, length, map, Result, IfErr}
 use Rattle.dev_model.specs.Counts.{Rose}
-use Rattle.dev_model.specs.Story.{Bytes, Story, bytes_of, part, IsSettled}
+use Rattle.dev_model.specs.Story.{Bytes, DeviceState, Story, WhereTold, bytes_of, part, IsSettled}
 use Rattle.dev_model.specs.Answers.{IsReadFrom}
 use Rattle.wal_log.specs.Records.{IsRecord, record_of}
 use Rattle.wal_log.specs.Rules.{HasRecords, AreRecords}
@@ -27,6 +27,10 @@ pub record IsPlaceStill (at : ℕ) (s : Story) : Type 0 where
 pub record IsOpenStill (log_start k : ℕ) (s : Story) : Type 0 where
   pub started : bytes_of s (segment_start log_start k) ≡ OPEN
   pub still : IsSegmentStill log_start k s
+
+-- what holds then of the bytes of a device
+abbrev pub WhereOpenStill : (log_start k : ℕ) → DeviceState → (Bytes → Type 0) → Type 0
+WhereOpenStill log_start k device P = WhereTold device.story (λ s. IsOpenStill log_start k s → P (bytes_of s))
 
 abbrev pub IsFound : ℕ → ℕ → Bytes → Found → Type 0
 IsFound at lsn bytes Closed = bytes at ≢ OPEN

@@ -4,11 +4,11 @@ ghost use Rattle.dev_model.specs.Counts.{HasCause, Rose};
 ghost use Rattle.dev_model.specs.Story.{WhereTold, bytes_of};
 ghost use Rattle.dev_model.specs.Answers.{IsReadFrom};
 ghost use Rattle.wal_log.specs.Places.{record_start};
-ghost use Rattle.wal_log.specs.Reads.{EndsOnDevice, ReadsLog};
+ghost use Rattle.wal_log.specs.Reads.{EndsOnDevice, OnlyReadsLog};
 ghost use Rattle.wal_log.specs.Records.{record_of, IsRecord};
 ghost use Rattle.wal_log.specs.Segments.{segment_records, segments_of};
 ghost use Rattle.wal_log.specs.Rules.{HasRecords};
-ghost use Rattle.wal_log.specs.Found.{HoldsPlaces, IsFoundIn, window_start, IsPlaceStill, IsOpenStill, IsFound, HasReadAll, HasCauseOfFault, HasNumber, AreFew, WhereBad};
+ghost use Rattle.wal_log.specs.Found.{HoldsPlaces, IsFoundIn, window_start, IsPlaceStill, IsFound, HasReadAll, HasCauseOfFault, HasNumber, AreFew, WhereBad, WhereOpenStill};
 
 use crate::Record;
 use crate::parsing::parse;
@@ -54,7 +54,7 @@ fn fill_window<D: Device>(
     requires width { length window.old ≡ WINDOW_BYTES }
     ensures here { OnOk result (WhereTold (D.seen device.old).story (λ s. HoldsPlaces log_start segment place window.old s → IsReadFrom (window_start log_start segment place) window.new s)) }
     ensures holds { OnOk result (WhereTold (D.seen device.old).story (HoldsPlaces log_start segment place window.old) → WhereTold (D.seen device.new).story (IsReadFrom (window_start log_start segment place) window.new)) }
-    ensures reads { WhereTold (D.seen device.old).story (λ s. ReadsLog log_start s (D.seen device.new).story) }
+    ensures reads { OnlyReadsLog log_start (D.seen device.old) (D.seen device.new) }
     ensures same_pages { (D.seen device.new).pages ≡ (D.seen device.old).pages }
     ensures cause { HasCause (D.seen device.old).faults (D.seen device.new).faults result }
 {
@@ -101,7 +101,7 @@ fn read_place<D: Device>(
     ensures found { IfOk result (λ found. WhereTold (D.seen device.old).story (λ s. HoldsPlaces log_start segment place window.old s → IsPlaceStill (record_start log_start segment place) s → IsFound (record_start log_start segment place) (first_lsn + place) (bytes_of s) found)) }
     ensures holds { OnOk result (WhereTold (D.seen device.old).story (HoldsPlaces log_start segment place window.old) → WhereTold (D.seen device.new).story (HoldsPlaces log_start segment (place + 1) window.new)) }
     ensures number { IfOk result (HasNumber (first_lsn + place)) }
-    ensures reads { WhereTold (D.seen device.old).story (λ s. ReadsLog log_start s (D.seen device.new).story) }
+    ensures reads { OnlyReadsLog log_start (D.seen device.old) (D.seen device.new) }
     ensures same_pages { (D.seen device.new).pages ≡ (D.seen device.old).pages }
     ensures cause { HasCause (D.seen device.old).faults (D.seen device.new).faults result }
 {
@@ -119,12 +119,12 @@ pub fn read_records<D: Device>(
 ) -> Result<u64, LogFault>
     requires below { segment < 4 }
     requires pages { EndsOnDevice log_start (D.seen device.old).pages }
-    ensures read { IfOk result (λ count. WhereTold (D.seen device.old).story (λ s. IsOpenStill log_start segment s →
-        HasReadAll first_lsn count (segment_records log_start segment (bytes_of s)) records.old.items records.new.items)) }
+    ensures read { IfOk result (λ count. WhereOpenStill log_start segment (D.seen device.old) (λ bytes.
+        HasReadAll first_lsn count (segment_records log_start segment bytes) records.old.items records.new.items)) }
     ensures few { IfOk result (AreFew first_lsn) }
     ensures bad { IfErr result (λ fault. WhereBad fault (λ number.
-        (number ≡ segment) × WhereTold (D.seen device.old).story (λ s. IsOpenStill log_start segment s → HasRecords first_lsn (segment_records log_start segment (bytes_of s)) → ⊥))) }
-    ensures reads { WhereTold (D.seen device.old).story (λ s. ReadsLog log_start s (D.seen device.new).story) }
+        (number ≡ segment) × WhereOpenStill log_start segment (D.seen device.old) (λ bytes. HasRecords first_lsn (segment_records log_start segment bytes) → ⊥))) }
+    ensures reads { OnlyReadsLog log_start (D.seen device.old) (D.seen device.new) }
     ensures same_pages { (D.seen device.new).pages ≡ (D.seen device.old).pages }
     ensures cause { HasCauseOfFault (D.seen device.old).faults (D.seen device.new).faults result }
 {

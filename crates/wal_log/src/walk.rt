@@ -1,14 +1,12 @@
 // The walk over the segments, from the oldest to the newest.
 ghost use Rattle.std.specs.Prelude.{◌==◌, get_or, false, ◌≡◌, ◌+◌, ◌<◌, ◌≤◌, ◌^◌, ◌++◌, [], ◌∷◌, Some, None, IfOk, IfErr, OnOk, ℕ, length, drop, replicate, All, take};
 ghost use Rattle.std.specs.Bool.{OnTrue, OnFalse};
-ghost use Rattle.dev_model.specs.Story.{WhereTold, bytes_of};
 ghost use Rattle.wal_log.specs.Places.{segment_start};
-ghost use Rattle.wal_log.specs.Reads.{EndsOnDevice, ReadsLog};
-ghost use Rattle.wal_log.specs.State.{IsStill};
+ghost use Rattle.wal_log.specs.Reads.{EndsOnDevice, OnlyReadsLog, WhereStill};
 ghost use Rattle.wal_log.specs.Segments.{segments_of};
 ghost use Rattle.wal_log.specs.Rules.{Opens, records_of};
 ghost use Rattle.wal_log.specs.Bad.{IsBad};
-ghost use Rattle.wal_log.specs.Found.{IsOpenStill, WhereBad, HasCauseOfFault};
+ghost use Rattle.wal_log.specs.Found.{WhereBad, HasCauseOfFault, WhereOpenStill};
 ghost use Rattle.wal_log.specs.Walk.{GoesOn, StartsAfter, EndsThere, HasReadSegment, IsUnsound, IsNewest, IsEndOf, IsCountedEnd};
 
 use crate::heads::{Head, read_heads};
@@ -111,12 +109,12 @@ fn read_segment<D: Device>(
     records: &mut Vec<Record>,
 ) -> Result<Ended, LogFault>
     requires pages { EndsOnDevice log_start (D.seen device.old).pages }
-    ensures read { IfOk result (λ ended. WhereTold (D.seen device.old).story (λ s. IsOpenStill log_start head.now.number s →
-        HasReadSegment log_start (bytes_of s) before head.now records.old.items ended records.new.items)) }
+    ensures read { IfOk result (λ ended. WhereOpenStill log_start head.now.number (D.seen device.old) (λ bytes.
+        HasReadSegment log_start bytes before head.now records.old.items ended records.new.items)) }
     ensures ended { IfOk result (IsEndOf before head.now) }
     ensures bad { IfErr result (λ fault. WhereBad fault (λ number.
-        (number ≡ head.now.number) × WhereTold (D.seen device.old).story (λ s. IsOpenStill log_start head.now.number s → IsUnsound log_start (bytes_of s) before head.now))) }
-    ensures reads { WhereTold (D.seen device.old).story (λ s. ReadsLog log_start s (D.seen device.new).story) }
+        (number ≡ head.now.number) × WhereOpenStill log_start head.now.number (D.seen device.old) (λ bytes. IsUnsound log_start bytes before head.now))) }
+    ensures reads { OnlyReadsLog log_start (D.seen device.old) (D.seen device.new) }
     ensures same_pages { (D.seen device.new).pages ≡ (D.seen device.old).pages }
     ensures cause { HasCauseOfFault (D.seen device.old).faults (D.seen device.new).faults result }
 {
@@ -145,16 +143,16 @@ pub fn read_segments<D: Device>(
     requires pages { EndsOnDevice log_start (D.seen device.old).pages }
     requires some { 1 ≤ length ends.now }
     requires below { All (λ last. last < LSN_LIMIT) ends.now }
-    ensures opens { IfOk result (λ read. WhereTold (D.seen device.old).story (λ s. IsStill log_start s → Opens ends.now (segments_of log_start (bytes_of s)))) }
-    ensures records { IfOk result (λ read. WhereTold (D.seen device.old).story (λ s. IsStill log_start s → read.records.items ≡ records_of (segments_of log_start (bytes_of s)))) }
+    ensures opens { IfOk result (λ read. WhereStill log_start (D.seen device.old) (λ bytes. Opens ends.now (segments_of log_start bytes))) }
+    ensures records { IfOk result (λ read. WhereStill log_start (D.seen device.old) (λ bytes. read.records.items ≡ records_of (segments_of log_start bytes))) }
     ensures counted { IfOk result (λ read. IsCountedEnd read.ended) }
     ensures behind { IfOk result (λ read. All (λ last. last + 1 ≤ read.ended.first_lsn) ends.now) }
-    ensures newest { IfOk result (λ read. WhereTold (D.seen device.old).story (λ s. IsStill log_start s → IsNewest log_start (bytes_of s) read.ended)) }
-    ensures told { IfOk result (λ read. WhereTold (D.seen device.old).story (λ s. IsStill log_start s →
-        (k : ℕ) → k < 4 → get_or read.open_headers k false ≡ (bytes_of s (segment_start log_start k) == OPEN))) }
+    ensures newest { IfOk result (λ read. WhereStill log_start (D.seen device.old) (λ bytes. IsNewest log_start bytes read.ended)) }
+    ensures told { IfOk result (λ read. WhereStill log_start (D.seen device.old) (λ bytes.
+        (k : ℕ) → k < 4 → get_or read.open_headers k false ≡ (bytes (segment_start log_start k) == OPEN))) }
     ensures bad { IfErr result (λ fault. WhereBad fault (λ number.
-        WhereTold (D.seen device.old).story (λ s. IsStill log_start s → IsBad ends.now (segments_of log_start (bytes_of s)) number))) }
-    ensures reads { WhereTold (D.seen device.old).story (λ s. ReadsLog log_start s (D.seen device.new).story) }
+        WhereStill log_start (D.seen device.old) (λ bytes. IsBad ends.now (segments_of log_start bytes) number))) }
+    ensures reads { OnlyReadsLog log_start (D.seen device.old) (D.seen device.new) }
     ensures same_pages { (D.seen device.new).pages ≡ (D.seen device.old).pages }
     ensures cause { HasCauseOfFault (D.seen device.old).faults (D.seen device.new).faults result }
 {
