@@ -2,5 +2,4 @@ mod Apart
 mod Begun
 mod Keeping
 mod Lent
-mod Memory
 mod Taking

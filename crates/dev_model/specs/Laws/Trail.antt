@@ -1,6 +1,6 @@
 -- The pages that a reader asked for, step by step.
 use Rattle.std.proofs.Common.{◌≡◌, ℕ, ◌+◌, ◌-◌, ◌^◌, ◌≤◌, Bool, true, false, List, [], ◌∷◌, ◌++◌, All, Option, Some, None, arith, refl, sym, ◌∙◌, ap, subst, append_assoc, inl, inr, nat_lt, if◌then◌else◌}
-use Rattle.std.specs.Prelude.{Result, Ok, Err, IsTrue}
+use Rattle.std.specs.Prelude.{Ok, Err, IsTrue}
 use Rattle.std.proofs.lemmas.Bool.{cases_Bool, ltb-true, ltb-false}
 use Rattle.std.proofs.lemmas.List.Elements.{All-append, All-cons}
 use Rattle.std.proofs.lemmas.List.{append-nil}
@@ -9,7 +9,7 @@ use Rattle.dev_model.specs.Story.{WhereTold}
 use Rattle.dev_model.specs.declared.page_faults.PageFault.{PageFault}
 use Rattle.dev_model.specs.declared.page_faults.PageFault.TheVariants.{Failed, Damaged, OutOfMemory}
 use Rattle.dev_model.specs.Lending.{Lending, StaysLent}
-use Rattle.dev_model.specs.Asked.{given_but_last, fault_of, reads_by, reads_of, EndsWith, StopsOn, GoesAlong, Went, OnDamaged, OnFailed, OnGiven, Reads}
+use Rattle.dev_model.specs.Asked.{given_but_last, reads_by, EndsWith, StopsOn, GoesAlong, OnDamaged, OnFailed, OnGiven, Reads}
 use Rattle.dev_model.specs.Given.{given}
 
 pub given-append : (seen more : List ℕ) → given (seen ++ more) ≡ given seen ++ given more
@@ -252,49 +252,3 @@ along-short fault pages way more whole e along = (along.0 ++ more, sym (append_a
 pub along-along : (fault : Option PageFault) (pages way whole : List ℕ) → GoesAlong fault pages way → GoesAlong fault way whole → GoesAlong fault pages whole
 along-along None pages way whole a b = a ∙ b
 along-along (Some fault) pages way whole a b = along-short fault pages way b.0 whole b.1 a
-
-module _ {S : Type 0} (asked : S → S → List (ℕ × Bool) → Type 0)
-    (onward : (first second third : S) (xs ys : List (ℕ × Bool)) → asked first second xs → asked second third ys → asked first third (xs ++ ys))
-    (lent : ℕ → Bool) where
-  -- what was given, and then one step more
-  pub went-then : {X : Type 0} (first second third : S) (result : Result X PageFault) (seen : List ℕ) (page : ℕ) (more : List ℕ)
-      → asked first second (given seen) → All (λ page. IsTrue (lent page)) seen → (now : ℕ → Bool) → now ≡ lent
-      → Went now (asked second third) result (page ∷ more) → Went lent (asked first third) result (seen ++ (page ∷ more))
-  went-then first second third result seen page more so_far are_lent now same there =
-      let went = subst (λ lent. Went lent (asked second third) result (page ∷ more)) same there in
-      record {
-        asked_for = subst (asked first third) (sym (by-append (fault_of result) [] seen (page ∷ more) went.stops)) (onward first second third (given seen) (reads_of result (page ∷ more)) so_far went.asked_for);
-        are_lent = All-append (λ page. IsTrue (lent page)) seen (page ∷ more) are_lent went.are_lent;
-        stops = stops-append (fault_of result) [] seen seen [] (page ∷ more) (sym (append-nil seen)) went.stops;
-      }
-
-  -- a refusal, as another call's
-  pub went-err : {X Y : Type 0} (first second : S) (fault : PageFault) (pages : List ℕ)
-      → Went {X = X} lent (asked first second) (Err fault) pages → Went {X = Y} lent (asked first second) (Err fault) pages
-  went-err first second Failed pages went = record { asked_for = went.asked_for; are_lent = went.are_lent; stops = went.stops }
-  went-err first second (Damaged page) pages went = record { asked_for = went.asked_for; are_lent = went.are_lent; stops = went.stops }
-  went-err first second OutOfMemory pages went = record { asked_for = went.asked_for; are_lent = went.are_lent; stops = went.stops }
-
-  one_lent : (page : ℕ) → IsTrue (lent page) → All (λ page. IsTrue (lent page)) (page ∷ [])
-  one_lent page is_lent = All-cons (λ page. IsTrue (lent page)) page [] is_lent (λ k d h. absurd (omega arith))
-
-  -- one page that was asked for
-  pub went-failed : {X : Type 0} (first second : S) (page : ℕ) → asked first second ((page, false) ∷ []) → IsTrue (lent page)
-      → Went {X = X} lent (asked first second) (Err Failed) (page ∷ [])
-  went-failed first second page so_far is_lent = record {
-    asked_for = so_far;
-    are_lent = one_lent page is_lent;
-    stops = (page, ([], refl));
-  }
-
-  pub went-damaged : {X : Type 0} (first second : S) (page : ℕ) → asked first second ((page, true) ∷ []) → IsTrue (lent page)
-      → Went {X = X} lent (asked first second) (Err (Damaged page)) (page ∷ [])
-  went-damaged first second page so_far is_lent = record {
-    asked_for = so_far;
-    are_lent = one_lent page is_lent;
-    stops = ([], refl);
-  }
-
-  pub went-ok : {X : Type 0} (first second : S) (page : ℕ) (x : X) → asked first second ((page, true) ∷ []) → IsTrue (lent page)
-      → Went lent (asked first second) (Ok x) (page ∷ [])
-  went-ok first second page x so_far is_lent = record { asked_for = so_far; are_lent = one_lent page is_lent; stops = tt }

@@ -1,6 +1,7 @@
 use Rattle.std.proofs.Common.{rules, refl, ◌∙◌, ap}
 use Rattle.primary_ix.specs.Lookups.{lookup_pages}
-use Rattle.kept_state.proofs.Found.{found-memory, pages-memory, found-disk, pages-disk}
+use Rattle.primary_ix.specs.Laws.Memory.{view-disk}
+use Rattle.kept_state.proofs.Found.{found-memory, pages-memory, found-disk}
 use Rattle.kept_state.proofs.Lent.{shown-there, found-as}
 use Rattle.kept_state.proofs.Went.{went-nowhere, read-lent}
 use Rattle.kept_state.proofs.reading.find_row.Goals as goal
@@ -31,7 +32,7 @@ returns-clause-asked g c =
     read-lent D.seen c.lookup_disk.result c.args.state.now.0 g.met.D.Device.clock_told c.new-pages.result.extents.now _
     c.args.device.now c.new-pages.result.device.now c.lookup_disk.new.pages.device.now _ (lookup_pages c.args.key) _
     (c.new-pages.ensures.extents ∙ c.extents.ensures.extents) c.components-components.ensures.trees c.new-pages.ensures.untouched (search rules)
-    (λ disk roots. pages-disk c.args.state.now.0.active c.args.state.now.0.frozen c.args.key c.in_default.ensures _ disk roots)
+    (λ disk roots. view-disk c.args.key c.args.state.now.0.active c.args.state.now.0.frozen _ disk roots c.in_default.ensures)
     (record {
       asked = there.0;
       went = record { asked_for = there.1.asked_for.2; are_lent = there.1.are_lent; stops = there.1.stops };

@@ -1,4 +1,4 @@
-use Rattle.primary_ix.proofs.Memory.{memory-active, memory-frozen, memory-none}
+use Rattle.primary_ix.specs.Laws.Memory.{memory-active, memory-frozen, memory-none}
 use Rattle.primary_ix.proofs.lookups.in_memory.Goals as goal
 
 pub returns-in-Some : goal.returns-in-Some

@@ -3,7 +3,8 @@ use Rattle.primary_ix.specs.Components.{AreShown}
 use Rattle.primary_ix.specs.Roots.{AreRoots}
 use Rattle.primary_ix.specs.OnPages.{ReadsAmong}
 use Rattle.primary_ix.specs.Lookups.{lookup_pages}
-use Rattle.primary_ix.proofs.Memory.{record-memory, record-disk, record-table, view-disk}
+use Rattle.primary_ix.specs.Laws.Memory.{view-disk}
+use Rattle.primary_ix.proofs.Memory.{record-memory, record-disk, record-table}
 use Rattle.primary_ix.proofs.lookups.lookup.Goals as goal
 
 pub returns-in-Some-clause-found : goal.returns-in-Some-clause-found

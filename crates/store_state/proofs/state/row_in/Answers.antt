@@ -1,4 +1,4 @@
-use Rattle.store_state.proofs.Memory.{memory-active, memory-frozen, memory-none}
+use Rattle.primary_ix.specs.Laws.Memory.{memory-active, memory-frozen, memory-none}
 use Rattle.store_state.proofs.state.row_in.Goals as goal
 
 pub returns-in-Some : goal.returns-in-Some
