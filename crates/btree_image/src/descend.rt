@@ -40,10 +40,8 @@ pub(crate) fn read_place<T: TreeRow, P: Pages>(
 {
     let here = level_at::<T>(tree.rows, level);
     let page = (u64::from(tree.first) + (here.start + at)) as u32;
-    match pages.read_page(page, buf) {
-        Ok(()) => Ok(page),
-        Err(failed) => Err(failed),
-    }
+    pages.read_page(page, buf)?;
+    Ok(page)
 }
 
 // The place of a child in its level, if it is a page of that level.
@@ -101,12 +99,10 @@ fn step<T: TreeRow, P: Pages>(
     ensures told { (list : List T) → IsShown T.layout (P.lending pages.old).contents tree.first tree.rows list → 0 < tree.rows → at ≡ place_of_key T.layout list key.now (suc below)
         → IfOk result (λ place. place ≡ place_of_key T.layout list key.now below) }
 {
-    match read_place::<T, P>(pages, tree, below + 1, at, buf) {
-        Err(_) => Err(PageFault::Failed),
-        Ok(page) => match place_from::<T>(buf, tree.rows, below, key) {
-            Some(place) => Ok(place),
-            None => Err(PageFault::Damaged { page }),
-        },
+    let page = read_place::<T, P>(pages, tree, below + 1, at, buf)?;
+    match place_from::<T>(buf, tree.rows, below, key) {
+        Some(place) => Ok(place),
+        None => Err(PageFault::Damaged { page }),
     }
 }
 
@@ -125,12 +121,10 @@ fn leaf_row<T: TreeRow, P: Pages>(
     ensures told { (list : List T) → IsShown T.layout (P.lending pages.old).contents tree.first tree.rows list → at ≡ place_of_key T.layout list key.now 0
         → IfOk result (λ found. found ≡ row_with_key T.layout list key.now) }
 {
-    match read_place::<T, P>(pages, tree, 0, at, buf) {
-        Err(_) => Err(PageFault::Failed),
-        Ok(page) => match row_for::<T>(buf, key) {
-            Ok(found) => Ok(found),
-            Err(_) => Err(PageFault::Damaged { page }),
-        },
+    let page = read_place::<T, P>(pages, tree, 0, at, buf)?;
+    match row_for::<T>(buf, key) {
+        Ok(found) => Ok(found),
+        Err(_) => Err(PageFault::Damaged { page }),
     }
 }
 
@@ -157,10 +151,7 @@ pub fn find<T: TreeRow, P: Pages>(
     let mut at = 0;
     while level > 0 {
         level -= 1;
-        at = match step::<T, P>(pages, tree, level, at, key, &mut buf) {
-            Ok(place) => place,
-            Err(fault) => return Err(fault),
-        };
+        at = step::<T, P>(pages, tree, level, at, key, &mut buf)?;
     }
     leaf_row::<T, P>(pages, tree, at, key, &mut buf)
 }

@@ -54,17 +54,15 @@ fn take<T: TreeRow, P: Pages>(
     ensures next { OnOk result (hand.new.next ≡ at + 1) }
     ensures in_hand { OnOk result (IsInHand T.layout tree.first tree.rows (P.lending pages.old).contents level at hand.new) }
 {
-    match read_place::<T, P>(pages, tree, level, at, &mut hand.buf) {
-        Err(_) => Err(PageFault::Failed),
-        Ok(page) => match count_at::<T>(&hand.buf, level) {
-            Ok(count) => {
-                hand.next = at + 1;
-                hand.page = page;
-                hand.count = count;
-                Ok(())
-            }
-            Err(_) => Err(PageFault::Damaged { page }),
-        },
+    let page = read_place::<T, P>(pages, tree, level, at, &mut hand.buf)?;
+    match count_at::<T>(&hand.buf, level) {
+        Ok(count) => {
+            hand.next = at + 1;
+            hand.page = page;
+            hand.count = count;
+            Ok(())
+        }
+        Err(_) => Err(PageFault::Damaged { page }),
     }
 }
 

@@ -1,7 +1,8 @@
-use Rattle.std.proofs.Common.{◌≡◌, ℕ, suc, ◌-◌, ◌<◌, [], ◌++◌, Some, None, arith, sym, subst}
+use Rattle.std.proofs.Common.{rules, List, ◌≡◌, ℕ, suc, ◌-◌, ◌<◌, [], ◌++◌, Some, None, arith, sym, subst}
 use Rattle.std.specs.Prelude.{Err}
-use Rattle.dev_model.specs.Asked.{fault_of}
-use Rattle.tree_shape.specs.Shape.{IsPlace}
+use Rattle.dev_model.specs.Asked.{fault_of, GoesAlong}
+use Rattle.btree_image.specs.Reading.{ReadsTree}
+use Rattle.tree_shape.specs.Shape.{IsPlace, IsRoot}
 use Rattle.btree_image.specs.Image.{shape_of}
 use Rattle.btree_image.specs.Given.{row_with_key}
 use Rattle.btree_image.specs.Shown.{IsShown}
@@ -31,28 +32,33 @@ loop-level-init g c =
 above : (level : ℕ) → 0 < level → level ≡ suc (level - 1)
 above level h = omega arith
 
-pub returns-in-Err-clause-found : goal.returns-in-Err-clause-found
-returns-in-Err-clause-found g c list shown =
+pub returns-in_err-at-clause-found : goal.returns-in_err-at-clause-found
+returns-in_err-at-clause-found g c list shown =
     let l = g.T.TreeRow.layout in
     let k = g.met.T.TreeRow.kinds in
-    let reads = reads-on g.met.P.Pages.asked_then (Some c.in-Err.fault) c.loop-level.invariant.reads c.in-Err.ensures.reads in
-    found_or_failed l (leaf_room l _ _ _ k) (inner_room l _ _ _ k) c.args.tree.first c.args.tree.rows list (λ level at place. g.met.P.Pages.lent_fits c.args.pages.now _ (c.requires level at place))
-    _ shown (Err c.in-Err.fault) (λ found. found ≡ row_with_key l list c.args.key.now) tt c.in-Err.ensures.needs_no_memory reads.damaged
+    let reads = reads-on g.met.P.Pages.asked_then (Some c.in_err-at.field-0.0) c.loop-level.invariant.reads c.in_err-at.ensures.reads in
+    let failed = found_or_failed l (leaf_room l _ _ _ k) (inner_room l _ _ _ k) c.args.tree.first c.args.tree.rows list (λ level at place. g.met.P.Pages.lent_fits c.args.pages.now _ (c.requires level at place))
+    _ shown (Err c.in_err-at.field-0.0) (λ found. found ≡ row_with_key l list c.args.key.now) tt c.in_err-at.ensures.needs_no_memory reads.damaged in
+    search rules
 
-pub returns-in-Err-clause-reads : goal.returns-in-Err-clause-reads
-returns-in-Err-clause-reads g c =
+pub returns-in_err-at-clause-reads : goal.returns-in_err-at-clause-reads
+returns-in_err-at-clause-reads g c =
     let l = g.T.TreeRow.layout in
     let e = above c.loop-level.level c.loop-level-test.true in
-    let inv = c.loop-level.invariant in (
+    let inv = c.loop-level.invariant in
+    let reads : (seen : List ℕ) × ReadsTree l c.args.tree.first c.args.tree.rows g.P.Pages.lending g.P.Pages.asked c.args.pages.now c.step.new.pages (Some c.in_err-at.field-0.0) [] seen
+        × ((list : List g.row.T.Denot) (root : ℕ) → IsShown l (g.P.Pages.lending c.args.pages.now).contents c.args.tree.first c.args.tree.rows list → IsRoot (shape_of l c.args.tree.rows) root
+        → GoesAlong (Some c.in_err-at.field-0.0) seen (descent l c.args.tree.first list c.args.key.now root)) = (
       _,
-      reads-on g.met.P.Pages.asked_then (Some c.in-Err.fault) inv.reads c.in-Err.ensures.reads,
+      reads-on g.met.P.Pages.asked_then (Some c.in_err-at.field-0.0) inv.reads c.in_err-at.ensures.reads,
       λ list root shown at_root.
           let at = subst (λ n. c.loop-level.at ≡ place_of_key l list c.args.key.now n) e (inv.told list shown) in
           let way = subst (λ n. inv.seen ++ descent l c.args.tree.first list c.args.key.now n ≡ descent l c.args.tree.first list c.args.key.now root) e (inv.way list root shown at_root) in (
             descent l c.args.tree.first list c.args.key.now (c.loop-level.level - 1),
             path_next l c.args.tree.first c.args.tree.rows list c.args.key.now shown.is (c.loop-level.level - 1) c.loop-level.at inv.seen _ at way,
           ),
-    )
+    ) in
+    search rules
 
 pub loop-level-preserved : goal.loop-level-preserved
 loop-level-preserved g c =
@@ -63,12 +69,12 @@ loop-level-preserved g c =
     let place = subst (λ n. IsPlace (shape_of l c.args.tree.rows) n c.loop-level.at) e inv.place in
     let some = rows_above (shape_of l c.args.tree.rows) (c.loop-level.level - 1) c.loop-level.at (leaf_room l _ _ _ k) place in
     record {
-      place = place_below (shape_of l c.args.tree.rows) (c.loop-level.level - 1) c.loop-level.at c.in-Ok.place place c.in-Ok.ensures.inside;
+      place = place_below (shape_of l c.args.tree.rows) (c.loop-level.level - 1) c.loop-level.at _ place c.in_ok-at.ensures.inside;
       low = let low = inv.low in omega arith;
       seen = _;
-      reads = reads-on g.met.P.Pages.asked_then None inv.reads c.in-Ok.ensures.reads;
+      reads = reads-on g.met.P.Pages.asked_then None inv.reads c.in_ok-at.ensures.reads;
       told = λ list shown.
-          c.in-Ok.ensures.told list (subst (λ contents. IsShown l contents c.args.tree.first c.args.tree.rows list) (sym inv.reads.same_contents) shown) some
+          c.in_ok-at.ensures.told list (subst (λ contents. IsShown l contents c.args.tree.first c.args.tree.rows list) (sym inv.reads.same_contents) shown) some
           (subst (λ n. c.loop-level.at ≡ place_of_key l list c.args.key.now n) e (inv.told list shown));
       way = λ list root shown at_root.
           let at = subst (λ n. c.loop-level.at ≡ place_of_key l list c.args.key.now n) e (inv.told list shown) in
