@@ -6,7 +6,7 @@ use Rattle.dev_model.specs.Story.{WhereTold}
 use Rattle.dev_model.specs.declared.page_faults.PageFault.{PageFault}
 use Rattle.dev_model.specs.declared.page_faults.PageFault.TheVariants.{Damaged, OutOfMemory}
 use Rattle.dev_model.specs.Lending.{Lending}
-use Rattle.dev_model.specs.Asked.{EndsWith, fault_of}
+use Rattle.dev_model.specs.Asked.{EndsWith, fault_of, GoesAlong}
 use Rattle.dev_model.specs.Laws.Trail.{reads-then, reads-none, reads-holding, reads-full, reads-damaged, along-then, along-whole, along-short}
 use Rattle.btree_image.specs.Rows.{Layout}
 use Rattle.btree_image.specs.Damage.{IsDamaged}
@@ -66,6 +66,19 @@ module _ {T K S : Type 0} {l : Layout T K} {at rows : ℕ} {lending : S → Lend
       reads = reads-damaged page a.reads (subst (λ xs. EndsWith (hand ++ xs) page) (sym a.along) ends) (bad wrong.1);
     })
   ]
+
+-- a refusal that is handed on
+pub goes-fault : {T K S : Type 0} {l : Layout T K} {at rows : ℕ} {lending : S → Lending} {asked : S → S → List (ℕ × Bool) → Type 0} {first second : S} {hand way : List ℕ}
+    → {X : Type 0} (result : Result X PageFault) (fault : PageFault) → result ≡ Err fault → GoesOn l at rows lending asked first second (Some fault) hand way → GoesOn l at rows lending asked first second (fault_of result) hand way
+goes-fault {l = l} {at = at} {rows = rows} {lending = lending} {asked = asked} {first = first} {second = second} {hand = hand} {way = way} result fault e goes =
+    subst (λ r. GoesOn l at rows lending asked first second (fault_of r) hand way) (sym e) goes
+
+pub along-fault : {X : Type 0} (result : Result X PageFault) (fault : PageFault) → result ≡ Err fault → (pages way : List ℕ) → GoesAlong (Some fault) pages way → GoesAlong (fault_of result) pages way
+along-fault result fault e pages way goes = subst (λ r. GoesAlong (fault_of r) pages way) (sym e) goes
+
+pub none_ok : {X E : Type 0} (result : Result X E) (e : E) (P : Type 0) → result ≡ Err e → OnOk result P
+none_ok (Ok x) e P is = cc
+none_ok (Err f) e P is = tt
 
 pub on_ok : {X E : Type 0} (result : Result X E) (P Q : Type 0) → (P → Q) → OnOk result P → OnOk result Q
 on_ok (Ok x) P Q f p = f p

@@ -38,10 +38,7 @@ fn push_rows<T: TreeRow>(
 {
     for i in from..to {
         match T::read(row(&hand.buf, i)) {
-            Some(found) => match out.push(found) {
-                Ok(()) => {}
-                Err(_) => return Err(PageFault::OutOfMemory),
-            },
+            Some(found) => out.push(found)?,
             None => return Err(PageFault::Damaged { page: hand.page }),
         }
     }
@@ -104,10 +101,7 @@ fn gather_page<T: TreeRow, P: Pages>(
         → hand.old.next ≤ suc at → run.first ≤ at → at < run.end
         → OnOk result (added ≡ part list (max (rank_below T.layout list range.now.0) (at * most_rows T.layout.leaf)) (min (rank T.layout list range.now.1) (suc at * most_rows T.layout.leaf)))) }
 {
-    match reach::<T, P>(pages, tree, 0, at, hand) {
-        Ok(()) => {}
-        Err(fault) => return Err(fault),
-    }
+    reach::<T, P>(pages, tree, 0, at, hand)?;
     let from = first_row::<T>(hand, run, at, &range.0);
     let to = end_row::<T>(hand, run, at, &range.1);
     push_rows(hand, from, to, out)
@@ -134,10 +128,7 @@ fn gather_run<T: TreeRow, P: Pages>(
         → hand.old.next ≤ suc run.first → OnOk result (added ≡ rows_of T.layout list range.now)) }
 {
     for at in run.first..run.end {
-        match gather_page::<T, P>(pages, tree, range, run, at, hand, out) {
-            Ok(()) => {}
-            Err(fault) => return Err(fault),
-        }
+        gather_page::<T, P>(pages, tree, range, run, at, hand, out)?;
     }
     Ok(())
 }
@@ -161,10 +152,7 @@ pub(crate) fn gather<T: TreeRow, P: Pages>(
 {
     hand.next = 0;
     for i in 0..runs.len() {
-        match gather_run::<T, P>(pages, tree, &ranges[i], runs[i], hand, out) {
-            Ok(()) => {}
-            Err(fault) => return Err(fault),
-        }
+        gather_run::<T, P>(pages, tree, &ranges[i], runs[i], hand, out)?;
     }
     Ok(())
 }

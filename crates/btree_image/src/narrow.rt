@@ -38,10 +38,7 @@ fn pass<T: TreeRow, P: Pages>(
     ensures holds { OnOk result (Holds T.layout tree.first tree.rows (P.lending pages.old).contents level hand.new) }
 {
     for at in run.first..run.end {
-        match reach::<T, P>(pages, tree, level, at, hand) {
-            Ok(()) => {}
-            Err(fault) => return Err(fault),
-        }
+        reach::<T, P>(pages, tree, level, at, hand)?;
     }
     Ok(())
 }
@@ -99,15 +96,9 @@ fn narrow_run<T: TreeRow, P: Pages>(
     if run.first >= run.end {
         return Ok(Run { first: 0, end: 0 });
     }
-    match reach::<T, P>(pages, tree, below + 1, run.first, hand) {
-        Ok(()) => {}
-        Err(fault) => return Err(fault),
-    }
+    reach::<T, P>(pages, tree, below + 1, run.first, hand)?;
     let first = first_below::<T>(hand, &range.0);
-    match pass::<T, P>(pages, tree, below + 1, run, hand) {
-        Ok(()) => {}
-        Err(fault) => return Err(fault),
-    }
+    pass::<T, P>(pages, tree, below + 1, run, hand)?;
     let size = level_at::<T>(tree.rows, below).size;
     Ok(Run {
         first,
@@ -137,10 +128,7 @@ pub(crate) fn narrow<T: TreeRow, P: Pages>(
 {
     hand.next = 0;
     for i in 0..runs.len() {
-        match narrow_run::<T, P>(pages, tree, below, &ranges[i], runs[i], hand) {
-            Ok(narrowed) => runs[i] = narrowed,
-            Err(fault) => return Err(fault),
-        }
+        runs[i] = narrow_run::<T, P>(pages, tree, below, &ranges[i], runs[i], hand)?;
     }
     Ok(())
 }

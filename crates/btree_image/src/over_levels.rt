@@ -50,10 +50,7 @@ fn scan_levels<T: TreeRow, P: Pages>(
     }
     while level > 0 {
         level -= 1;
-        match narrow::<T, P>(pages, tree, level, ranges, runs, &mut hand) {
-            Ok(()) => {}
-            Err(fault) => return Err(fault),
-        }
+        narrow::<T, P>(pages, tree, level, ranges, runs, &mut hand)?;
     }
     gather(pages, tree, ranges, runs, &mut hand, out)
 }

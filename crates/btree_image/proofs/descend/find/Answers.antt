@@ -47,8 +47,8 @@ returns-in_err-at-clause-reads g c =
     let e = above c.loop-level.level c.loop-level-test.true in
     let inv = c.loop-level.invariant in
     let reads : (seen : List ℕ) × ReadsTree l c.args.tree.first c.args.tree.rows g.P.Pages.lending g.P.Pages.asked c.args.pages.now c.step.new.pages (Some c.in_err-at.field-0.0) [] seen
-        × ((list : List g.row.T.Denot) (root : ℕ) → IsShown l (g.P.Pages.lending c.args.pages.now).contents c.args.tree.first c.args.tree.rows list → IsRoot (shape_of l c.args.tree.rows) root
-        → GoesAlong (Some c.in_err-at.field-0.0) seen (descent l c.args.tree.first list c.args.key.now root)) = (
+    × ((list : List g.row.T.Denot) (root : ℕ) → IsShown l (g.P.Pages.lending c.args.pages.now).contents c.args.tree.first c.args.tree.rows list → IsRoot (shape_of l c.args.tree.rows) root
+    → GoesAlong (Some c.in_err-at.field-0.0) seen (descent l c.args.tree.first list c.args.key.now root)) = (
       _,
       reads-on g.met.P.Pages.asked_then (Some c.in_err-at.field-0.0) inv.reads c.in_err-at.ensures.reads,
       λ list root shown at_root.

@@ -1,4 +1,4 @@
-use Rattle.std.proofs.Common.{◌≡◌, ℕ, ◌+◌, ◌-◌, ◌≤◌, ◌++◌, suc, [], Some, None, List, map, drop, get_or, arith, refl, sym, ◌∙◌, ap, subst, append_assoc}
+use Rattle.std.proofs.Common.{rules, ◌≡◌, ℕ, ◌+◌, ◌-◌, ◌≤◌, ◌++◌, suc, [], Some, None, List, map, drop, get_or, arith, refl, sym, ◌∙◌, ap, subst, append_assoc}
 use Rattle.std.specs.List.{flat_map}
 use Rattle.std.proofs.lemmas.List.{append-nil, drop_more, drop_all}
 use Rattle.std.specs.declared.cmp.Ordering.TheVariants.{Less}
@@ -7,7 +7,7 @@ use Rattle.btree_image.specs.Pages.{page_number}
 use Rattle.btree_image.specs.Shown.{IsShown}
 use Rattle.btree_image.specs.Walks.{IsInHand, in_hand, places_in, walk, Leads, rows_of}
 use Rattle.btree_image.proofs.Widths.{leaf_room, inner_room}
-use Rattle.btree_image.proofs.Along.{goes-then, goes-short, goes-same, goes-nowhere}
+use Rattle.btree_image.proofs.Along.{goes-fault, none_ok, goes-then, goes-short, goes-same, goes-nowhere}
 use Rattle.btree_image.proofs.Places.{pages-next, pages-done, walk-next, behind-most, hand-follows}
 use Rattle.btree_image.proofs.Narrowed.{run-follows}
 use Rattle.btree_image.proofs.MetRanges.{rows-ranges}
@@ -38,19 +38,19 @@ joined : (seen before hand more rest after : List ℕ) → seen ≡ before ++ ha
 joined seen before hand more rest after e f =
     ap (λ xs. xs ++ more) e ∙ (append_assoc before hand more ∙ (ap (λ xs. before ++ xs) f ∙ sym (append_assoc before rest after)))
 
-pub returns-in-Err-clause-goes : goal.returns-in-Err-clause-goes
-returns-in-Err-clause-goes g c =
+pub returns-in_err-gather_run-clause-goes : goal.returns-in_err-gather_run-clause-goes
+returns-in_err-gather_run-clause-goes g c =
     let inv = c.loop-i.invariant in
     let number = page_number g.T.TreeRow.layout c.args.tree.first c.args.tree.rows 0 in
     let test = c.loop-i-test.true in
-    goes-short c.in-Err.fault [] _ _ _ (pages-next number inv.seen _ _ _ _ inv.left (walk-next c.loop-i.hand.next c.loop-i.i c.args.runs.now no_run (omega arith)))
-    (goes-then g.met.P.Pages.asked_then (Some c.in-Err.fault) _ _ inv.before _ _ inv.goes inv.ends c.in-Err.ensures.goes)
+    goes-fault c.from_residual.result _ (search rules) (goes-short c.in_err-gather_run.field-0.0 [] _ _ _ (pages-next number inv.seen _ _ _ _ inv.left (walk-next c.loop-i.hand.next c.loop-i.i c.args.runs.now no_run (omega arith)))
+    (goes-then g.met.P.Pages.asked_then (Some c.in_err-gather_run.field-0.0) _ _ inv.before _ _ inv.goes inv.ends c.in_err-gather_run.ensures.goes))
 
-pub returns-in-Err-clause-adds : goal.returns-in-Err-clause-adds
-returns-in-Err-clause-adds g c =
+pub returns-in_err-gather_run-clause-adds : goal.returns-in_err-gather_run-clause-adds
+returns-in_err-gather_run-clause-adds g c =
     let inv = c.loop-i.invariant in
-    let adds = c.in-Err.ensures.adds in
-    (inv.added ++ adds.0, adds.1 ∙ (ap (λ xs. xs ++ adds.0) inv.out ∙ append_assoc c.args.out.now.items inv.added adds.0), λ list shown ascend lead. tt)
+    let adds = c.in_err-gather_run.ensures.adds in
+    (inv.added ++ adds.0, adds.1 ∙ (ap (λ xs. xs ++ adds.0) inv.out ∙ append_assoc c.args.out.now.items inv.added adds.0), λ list shown ascend lead. none_ok c.from_residual.result c.in_err-gather_run.field-0.0 _ (search rules))
 
 pub returns-clause-goes : goal.returns-clause-goes
 returns-clause-goes g c =
@@ -82,18 +82,18 @@ loop-i-preserved g c =
     let next = c.loop-i.hand.next in
     let run = get_or c.args.runs.now i no_run in
     let range = c.index-ranges-i.result in
-    let adds = c.in-Ok.ensures.adds in
+    let adds = c.in_ok-gather_run.ensures.adds in
     let follows = hand-follows l c.args.tree.first c.args.tree.rows 0 next run.first run.end in
     let same = c.requires.same_count in
     record {
       seen = inv.seen ++ map number (places_in next run.first run.end);
-      goes = goes-then g.met.P.Pages.asked_then None _ _ inv.before _ _ inv.goes inv.ends c.in-Ok.ensures.goes;
-      left = ap (λ n. (inv.seen ++ map number (places_in next run.first run.end)) ++ map number (walk n (drop (i + 1) c.args.runs.now))) c.in-Ok.ensures.next
+      goes = goes-then g.met.P.Pages.asked_then None _ _ inv.before _ _ inv.goes inv.ends c.in_ok-gather_run.ensures.goes;
+      left = ap (λ n. (inv.seen ++ map number (places_in next run.first run.end)) ++ map number (walk n (drop (i + 1) c.args.runs.now))) c.in_ok-gather_run.ensures.next
           ∙ pages-next number inv.seen _ _ _ _ inv.left (walk-next next i c.args.runs.now no_run (omega arith));
       before = inv.before ++ follows.0;
       ends = joined inv.seen inv.before _ _ follows.0 _ inv.ends follows.1
-          ∙ ap (λ n. (inv.before ++ follows.0) ++ in_hand l c.args.tree.first c.args.tree.rows 0 n) (sym c.in-Ok.ensures.next);
-      holds = λ some. subst (λ contents. IsInHand l c.args.tree.first c.args.tree.rows contents 0 (c.gather_run.new.hand.next - 1) c.gather_run.new.hand) inv.goes.reads.same_contents (c.in-Ok.ensures.holds some);
+          ∙ ap (λ n. (inv.before ++ follows.0) ++ in_hand l c.args.tree.first c.args.tree.rows 0 n) (sym c.in_ok-gather_run.ensures.next);
+      holds = λ some. subst (λ contents. IsInHand l c.args.tree.first c.args.tree.rows contents 0 (c.gather_run.new.hand.next - 1) c.gather_run.new.hand) inv.goes.reads.same_contents (c.in_ok-gather_run.ensures.holds some);
       near = λ list shown ascend lead j d h inside.
           let behind : next ≤ suc (get_or c.args.runs.now j d).first = inv.near list shown ascend lead j d (omega arith) inside in
           let one = lead i range no_run (omega arith) in
@@ -102,7 +102,7 @@ loop-i-preserved g c =
           let apart = subst (λ (r : g.row.T-Key.Denot × g.row.T-Key.Denot). l.order r.1 (get_or c.args.ranges.now j range).0 ≡ Less) (sym c.index-ranges-i.is) (ascend.apart i j range (omega arith) (omega arith)) in
           let follows = run-follows l k.key_order (leaf_room l _ _ _ k) (inner_room l _ _ _ k) c.args.tree.rows list shown.is 0 range (get_or c.args.ranges.now j range) run (get_or c.args.runs.now j d) first second apart in
           let most = behind-most next run.first run.end in
-          let moved = c.in-Ok.ensures.next in
+          let moved = c.in_ok-gather_run.ensures.next in
           omega arith;
       added = inv.added ++ adds.0;
       out = adds.1 ∙ (ap (λ xs. xs ++ adds.0) inv.out ∙ append_assoc c.args.out.now.items inv.added adds.0);

@@ -1,4 +1,4 @@
-use Rattle.std.proofs.Common.{◌≡◌, ◌-◌, [], Some, None, arith, sym, ◌∙◌, subst}
+use Rattle.std.proofs.Common.{rules, ◌≡◌, ◌-◌, [], Some, None, arith, sym, ◌∙◌, subst}
 use Rattle.std.proofs.lemmas.List.{append-nil}
 use Rattle.page_codec.specs.Page.{rows_on}
 use Rattle.btree_image.specs.Damage.{AllReadable}
@@ -6,27 +6,27 @@ use Rattle.btree_image.specs.Image.{shape_of}
 use Rattle.tree_shape.specs.Shape.{IsPlace}
 use Rattle.btree_image.specs.Walks.{IsInHand, in_hand}
 use Rattle.btree_image.proofs.Widths.{leaf_room, inner_room}
-use Rattle.btree_image.proofs.Along.{goes-holding, goes-copied, on_ok}
+use Rattle.btree_image.proofs.Along.{goes-fault, none_ok, goes-holding, goes-copied, on_ok}
 use Rattle.btree_image.proofs.Places.{hand-ends}
 use Rattle.btree_image.proofs.Told.{shown_read, damaged_at}
 use Rattle.btree_image.proofs.Gathered.{copied, shown_rows, from-told, to-told, short}
 use Rattle.btree_image.proofs.gather.gather_page.Goals as goal
 
-pub returns-in-Err-clause-goes : goal.returns-in-Err-clause-goes
-returns-in-Err-clause-goes g c = goes-holding (Some c.in-Err.fault) _ _ c.in-Err.ensures.goes
+pub returns-in_err-reach-clause-goes : goal.returns-in_err-reach-clause-goes
+returns-in_err-reach-clause-goes g c = goes-fault c.from_residual.result _ (search rules) (goes-holding (Some c.in_err-reach.field-0.0) _ _ c.in_err-reach.ensures.goes)
 
-pub returns-in-Err-clause-adds : goal.returns-in-Err-clause-adds
-returns-in-Err-clause-adds g c = ([], sym (append-nil c.args.out.now.items), λ list shown leads near from before. tt)
+pub returns-in_err-reach-clause-adds : goal.returns-in_err-reach-clause-adds
+returns-in_err-reach-clause-adds g c = ([], sym (append-nil c.args.out.now.items), λ list shown leads near from before. none_ok c.from_residual.result c.in_err-reach.field-0.0 _ (search rules))
 
 pub returns-clause-goes : goal.returns-clause-goes
 returns-clause-goes g c =
     let l = g.T.TreeRow.layout in
-    let held = c.in-Ok.ensures.in_hand in
+    let held = c.in_ok-reach.ensures.in_hand in
     let at = c.reach.new.hand.next - 1 in
     let place : IsPlace (shape_of l c.args.tree.rows) 0 at = record { inside = held.inside; up_to_root = λ j h. absurd (omega arith) } in
     goes-copied c.push_rows.result (in_hand l c.args.tree.first c.args.tree.rows 0 c.args.hand.now.next) _ c.reach.new.hand.page (AllReadable l (rows_on c.reach.new.hand.buf) → ⊥)
-    c.push_rows.ensures.fault (goes-holding None _ _ c.in-Ok.ensures.goes)
-    (hand-ends l c.args.tree.first c.args.tree.rows 0 c.args.hand.now.next c.args.at c.reach.new.hand.next c.reach.new.hand.page c.in-Ok.ensures.next held.number)
+    c.push_rows.ensures.fault (goes-holding None _ _ c.in_ok-reach.ensures.goes)
+    (hand-ends l c.args.tree.first c.args.tree.rows 0 c.args.hand.now.next c.args.at c.reach.new.hand.next c.reach.new.hand.page c.in_ok-reach.ensures.next held.number)
     (λ bad bytes told. damaged_at l c.args.tree.first c.args.tree.rows _ bytes c.reach.new.hand.buf 0 at c.reach.new.hand.page
     told held.told place held.number (λ well. bad well.readable))
 
@@ -40,9 +40,9 @@ returns-clause-adds g c =
       adds.0,
       adds.1,
       λ list shown leads near from before.
-          let next = c.in-Ok.ensures.next in
+          let next = c.in_ok-reach.ensures.next in
           let here : c.reach.new.hand.next - 1 ≡ c.args.at = omega arith in
-          let held = subst (λ n. IsInHand l c.args.tree.first c.args.tree.rows (g.P.Pages.lending c.args.pages.now).contents 0 n c.reach.new.hand) here c.in-Ok.ensures.in_hand in
+          let held = subst (λ n. IsInHand l c.args.tree.first c.args.tree.rows (g.P.Pages.lending c.args.pages.now).contents 0 n c.reach.new.hand) here c.in_ok-reach.ensures.in_hand in
           let place : IsPlace (shape_of l c.args.tree.rows) 0 c.args.at = record { inside = held.inside; up_to_root = λ j h. absurd (omega arith) } in
           let bytes = c.reach.new.hand.buf in
           let shows = shown_read l list c.args.tree.first c.args.tree.rows _ shown bytes 0 c.args.at place held.told in

@@ -36,7 +36,7 @@ loop-i-preserved g c =
       from = omega arith;
       most = omega arith;
       added = inv.added ++ c.in-Some.found ∷ [];
-      out = c.in-Ok.ensures.items ∙ (ap (λ xs. xs ++ c.in-Some.found ∷ []) inv.out ∙ append_assoc c.args.out.now.items inv.added (c.in-Some.found ∷ []));
+      out = c.in_ok-push-in-Some.ensures.items ∙ (ap (λ xs. xs ++ c.in-Some.found ∷ []) inv.out ∙ append_assoc c.args.out.now.items inv.added (c.in-Some.found ∷ []));
       rows = map-append (λ x. Some x) inv.added (c.in-Some.found ∷ [])
           ∙ (ap (λ xs. xs ++ Some c.in-Some.found ∷ []) inv.rows
           ∙ (ap (λ x. map l.of_bytes (take (c.loop-i.i - c.args.from) (drop c.args.from rows)) ++ x ∷ []) read

@@ -1,7 +1,7 @@
-use Rattle.std.proofs.Common.{[], Some, None, map, arith, sym, ◌∙◌, ap, subst, max, suc, ◌-◌}
+use Rattle.std.proofs.Common.{rules, [], Some, None, map, arith, sym, ◌∙◌, ap, subst, max, suc, ◌-◌}
 use Rattle.btree_image.specs.Pages.{page_number}
 use Rattle.btree_image.specs.Walks.{IsInHand}
-use Rattle.btree_image.proofs.Along.{goes-on, goes-short, goes-same, goes-nowhere}
+use Rattle.btree_image.proofs.Along.{goes-fault, goes-on, goes-short, goes-same, goes-nowhere}
 use Rattle.btree_image.proofs.Places.{places-none, places-whole, behind-none, behind-step, behind-whole, run-next, run-left}
 use Rattle.btree_image.proofs.narrow.pass.Goals as goal
 
@@ -16,12 +16,12 @@ loop-at-init g c =
       holds = c.requires.holds;
     }
 
-pub returns-in-Err-clause-goes : goal.returns-in-Err-clause-goes
-returns-in-Err-clause-goes g c =
+pub returns-in_err-reach-clause-goes : goal.returns-in_err-reach-clause-goes
+returns-in_err-reach-clause-goes g c =
     let number = page_number g.T.TreeRow.layout c.args.tree.first c.args.tree.rows c.args.level in
     let inv = c.loop-at.invariant in
-    goes-short c.in-Err.fault [] _ _ _ (run-left number c.args.hand.now.next c.args.run.first c.loop-at.at c.args.run.end c.loop-at.hand.next inv.from c.loop-at-test.true inv.next)
-    (goes-on g.met.P.Pages.asked_then (Some c.in-Err.fault) _ _ inv.goes c.in-Err.ensures.goes)
+    goes-fault c.from_residual.result _ (search rules) (goes-short c.in_err-reach.field-0.0 [] _ _ _ (run-left number c.args.hand.now.next c.args.run.first c.loop-at.at c.args.run.end c.loop-at.hand.next inv.from c.loop-at-test.true inv.next)
+    (goes-on g.met.P.Pages.asked_then (Some c.in_err-reach.field-0.0) _ _ inv.goes c.in_err-reach.ensures.goes))
 
 pub loop-at-preserved : goal.loop-at-preserved
 loop-at-preserved g c =
@@ -30,11 +30,11 @@ loop-at-preserved g c =
     let inv = c.loop-at.invariant in
     record {
       goes = goes-same (run-next number c.args.hand.now.next c.args.run.first c.loop-at.at c.loop-at.hand.next inv.from inv.next)
-          (goes-on g.met.P.Pages.asked_then None _ _ inv.goes c.in-Ok.ensures.goes);
+          (goes-on g.met.P.Pages.asked_then None _ _ inv.goes c.in_ok-reach.ensures.goes);
       from = let from = inv.from in omega arith;
       most = let test = c.loop-at-test.true in omega arith;
-      next = c.in-Ok.ensures.next ∙ (ap (λ n. max n (suc c.loop-at.at)) inv.next ∙ behind-step c.args.hand.now.next c.args.run.first c.loop-at.at inv.from);
-      holds = λ some. subst (λ contents. IsInHand l c.args.tree.first c.args.tree.rows contents c.args.level (c.reach.new.hand.next - 1) c.reach.new.hand) inv.goes.reads.same_contents c.in-Ok.ensures.in_hand;
+      next = c.in_ok-reach.ensures.next ∙ (ap (λ n. max n (suc c.loop-at.at)) inv.next ∙ behind-step c.args.hand.now.next c.args.run.first c.loop-at.at inv.from);
+      holds = λ some. subst (λ contents. IsInHand l c.args.tree.first c.args.tree.rows contents c.args.level (c.reach.new.hand.next - 1) c.reach.new.hand) inv.goes.reads.same_contents c.in_ok-reach.ensures.in_hand;
     }
 
 pub returns-clause-goes : goal.returns-clause-goes

@@ -1,4 +1,4 @@
-use Rattle.std.proofs.Common.{◌≡◌, ℕ, ◌+◌, ◌-◌, ◌<◌, ◌≤◌, ◌++◌, suc, [], ◌∷◌, Some, None, map, length, All, arith, sym, ◌∙◌, ap, subst, append_assoc}
+use Rattle.std.proofs.Common.{rules, ◌≡◌, ℕ, ◌+◌, ◌-◌, ◌<◌, ◌≤◌, ◌++◌, suc, [], ◌∷◌, Some, None, map, length, All, arith, sym, ◌∙◌, ap, subst, append_assoc}
 use Rattle.std.proofs.lemmas.List.{append-nil}
 use Rattle.std.proofs.lemmas.Bool.{eqb-true, eqb-false}
 use Rattle.btree_image.specs.declared.runs.Run.{Run}
@@ -12,7 +12,7 @@ use Rattle.btree_image.specs.Walks.{walk, AllLead}
 use Rattle.btree_image.proofs.Widths.{leaf_room, inner_room}
 use Rattle.tree_shape.specs.Laws.Places.{root_unique}
 use Rattle.dev_model.specs.Laws.Trail.{along-whole}
-use Rattle.btree_image.proofs.Along.{goes-on, goes-same, goes-nowhere, ok_always}
+use Rattle.btree_image.proofs.Along.{goes-fault, along-fault, none_ok, goes-on, goes-same, goes-nowhere, ok_always}
 use Rattle.btree_image.proofs.Places.{place-one}
 use Rattle.btree_image.proofs.Once.{still-once, still-above}
 use Rattle.btree_image.proofs.Visits.{length-ones, ends-ones, visits-none, rows-none, visits-root, leads-root, leads-runs, visits-next, visits-last}
@@ -80,51 +80,52 @@ loop-level-preserved g c =
     let ends = subst (λ n. All (λ (run : Run). run.end ≤ level_size s n) c.loop-level.runs) e inv.inside in
     let above = subst (λ n. All (λ page. c.args.tree.first + level_start s (suc n) ≤ page) inv.seen) e inv.above in
     let now = map (page_number l c.args.tree.first c.args.tree.rows (suc below)) (walk 0 c.loop-level.runs) in
-    let same : length c.narrow.new.runs ≡ length c.args.ranges.now = c.in-Ok.ensures.count ∙ inv.count in
+    let same : length c.narrow.new.runs ≡ length c.args.ranges.now = c.in_ok-narrow.ensures.count ∙ inv.count in
     record {
       low = let low = inv.low in omega arith;
       up_to_root = λ j h. inv.up_to_root j (omega arith);
       count = same;
-      inside = c.in-Ok.ensures.inside;
+      inside = c.in_ok-narrow.ensures.inside;
       seen = inv.seen ++ now;
-      goes = goes-on g.met.P.Pages.asked_then None _ _ inv.goes c.in-Ok.ensures.goes;
+      goes = goes-on g.met.P.Pages.asked_then None _ _ inv.goes c.in_ok-narrow.ensures.goes;
       once = still-once l c.args.tree.first c.args.tree.rows (suc below) c.loop-level.runs ends inv.seen inv.once above;
       above = still-above l c.args.tree.first c.args.tree.rows (suc below) c.loop-level.runs ends inv.seen above;
       lead = λ list shown ascend.
           let lead = subst (λ n. AllLead l list n c.args.ranges.now c.loop-level.runs) e (inv.lead list shown ascend) in
           let shown_now = subst (λ contents. IsShown l contents c.args.tree.first c.args.tree.rows list) (sym inv.goes.reads.same_contents) shown in
           leads-runs l k.key_order (leaf_room l _ _ _ k) (inner_room l _ _ _ k) c.args.tree.rows list shown.is c.args.tree.first c.args.ranges.now c.narrow.new.runs below
-          (c.in-Ok.ensures.told list shown_now ascend lead);
+          (c.in_ok-narrow.ensures.told list shown_now ascend lead);
       left = λ list root shown ascend at_root.
           let lead = subst (λ n. AllLead l list n c.args.ranges.now c.loop-level.runs) e (inv.lead list shown ascend) in
           let shown_now = subst (λ contents. IsShown l contents c.args.tree.first c.args.tree.rows list) (sym inv.goes.reads.same_contents) shown in
           visits-next l k.key_order (leaf_room l _ _ _ k) (inner_room l _ _ _ k) c.args.tree.rows list shown.is c.args.tree.first c.args.ranges.now ascend inv.seen now _ below c.narrow.new.runs same
-          (c.in-Ok.ensures.told list shown_now ascend lead)
+          (c.in_ok-narrow.ensures.told list shown_now ascend lead)
           (subst (λ n. inv.seen ++ (map (page_number l c.args.tree.first c.args.tree.rows n) (walk 0 c.loop-level.runs) ++ met_below l list c.args.ranges.now c.args.tree.first n)
           ≡ visited_pages l list c.args.ranges.now c.args.tree.first root) e (inv.left list root shown ascend at_root));
     }
 
-pub returns-in-Err-clause-way : goal.returns-in-Err-clause-way
-returns-in-Err-clause-way g c =
+pub returns-in_err-narrow-clause-way : goal.returns-in_err-narrow-clause-way
+returns-in_err-narrow-clause-way g c =
     let l = g.T.TreeRow.layout in
     let s = shape_of l c.args.tree.rows in
     let inv = c.loop-level.invariant in
+    let fault = c.in_err-narrow.field-0.0 in
     let below = c.loop-level.level - 1 in
     let e = above_next c.loop-level.level c.loop-level-test.true in
     let ends = subst (λ n. All (λ (run : Run). run.end ≤ level_size s n) c.loop-level.runs) e inv.inside in
     let above = subst (λ n. All (λ page. c.args.tree.first + level_start s (suc n) ≤ page) inv.seen) e inv.above in
     let now = map (page_number l c.args.tree.first c.args.tree.rows (suc below)) (walk 0 c.loop-level.runs) in (
       inv.seen ++ now,
-      goes-on g.met.P.Pages.asked_then (Some c.in-Err.fault) _ _ inv.goes c.in-Err.ensures.goes,
+      goes-fault c.from_residual.result fault (search rules) (goes-on g.met.P.Pages.asked_then (Some fault) _ _ inv.goes c.in_err-narrow.ensures.goes),
       still-once l c.args.tree.first c.args.tree.rows (suc below) c.loop-level.runs ends inv.seen inv.once above,
       λ list root shown ascend at_root.
           let so_far = subst (λ n. inv.seen ++ (map (page_number l c.args.tree.first c.args.tree.rows n) (walk 0 c.loop-level.runs) ++ met_below l list c.args.ranges.now c.args.tree.first n)
           ≡ visited_pages l list c.args.ranges.now c.args.tree.first root) e (inv.left list root shown ascend at_root) in
-          (met_below l list c.args.ranges.now c.args.tree.first (suc below), append_assoc inv.seen now _ ∙ so_far),
+          along-fault c.from_residual.result fault (search rules) _ _ (met_below l list c.args.ranges.now c.args.tree.first (suc below), append_assoc inv.seen now _ ∙ so_far),
     )
 
-pub returns-in-Err-clause-adds : goal.returns-in-Err-clause-adds
-returns-in-Err-clause-adds g c = ([], sym (append-nil c.args.out.now.items), λ list shown ascend. tt)
+pub returns-in_err-narrow-clause-adds : goal.returns-in_err-narrow-clause-adds
+returns-in_err-narrow-clause-adds g c = ([], sym (append-nil c.args.out.now.items), λ list shown ascend. none_ok c.from_residual.result c.in_err-narrow.field-0.0 _ (search rules))
 
 pub returns-clause-way : goal.returns-clause-way
 returns-clause-way g c =
