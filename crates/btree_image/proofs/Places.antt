@@ -147,11 +147,6 @@ behind-next next first at h =
 pub behind-step : (next first at : ℕ) → first ≤ at → max (next_behind next first at) (suc at) ≡ next_behind next first (at + 1)
 behind-step next first at h = behind-next next first at h ∙ ap (next_behind next first) (omega arith)
 
-pub behind-all : (next first end : ℕ) → first < end → next_behind (max next (suc first)) first end ≡ next_behind next first end
-behind-all next first end h =
-    let e : max (max next (suc first)) end ≡ max next end = omega arith in
-    behind-some (max next (suc first)) first end h ∙ (e ∙ sym (behind-some next first end h))
-
 -- a walk over what is left of the runs, one run further
 pub walk-next : (next i : ℕ) (runs : List Run) (run : Run) → i < length runs
     → places_in next (get_or runs i run).first (get_or runs i run).end ++ walk (next_behind next (get_or runs i run).first (get_or runs i run).end) (drop (i + 1) runs) ≡ walk next (drop i runs)
