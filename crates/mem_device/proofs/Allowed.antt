@@ -5,7 +5,6 @@ use Rattle.std.specs.Ordering.{nat_cmp, MatchOrdering}
 use Rattle.std.specs.declared.cmp.Ordering.TheVariants.{Less, Equal, Greater}
 use Rattle.dev_model.specs.Story.{place, Past, Bytes, Call, Read, Write, Sync, FailedWrite, FailedCall, Past, Story, bytes_after, IsOutside, IsSettled, IsSpared, IsImageAt, IsImageNow, IsImageDuring}
 use Rattle.dev_model.specs.Laws.Ranges.{patched-outside}
-use Rattle.mem_device.specs.Inside.{bytes_with, image_with}
 use Rattle.mem_device.specs.TornImages.{overlaid, image_during, image_after, before_at_or_after, image_at}
 use Rattle.mem_device.specs.declared.torn.Torn.{Torn}
 use Rattle.mem_device.specs.declared.torn.Torn.TheVariants.{Old, New, Fill, Front}
@@ -54,16 +53,9 @@ image_at-IsImage torn start (call ∷ calls) m =
       | Greater ↦ (λ i settled. image_after-settled torn (place start) (call ∷ calls) i settled)
     ]
 
-pub bytes_after-call : (start : Bytes) (call : Call) (calls : Past) → bytes_after start (call ∷ calls) ≡ bytes_with call (bytes_after start calls)
+pub bytes_after-call : (start : Bytes) (call : Call) (calls : Past) → bytes_after start (call ∷ calls) ≡ bytes_after (bytes_after start calls) (call ∷ [])
 bytes_after-call start (Write at new) calls = refl
 bytes_after-call start (FailedWrite at new) calls = refl
 bytes_after-call start (Read at count) calls = refl
 bytes_after-call start Sync calls = refl
 bytes_after-call start FailedCall calls = refl
-
-pub image_after-call : (torn : Torn) (start : Bytes) (call : Call) (calls : Past) → image_after torn start (call ∷ calls) ≡ image_with torn call (bytes_after start calls) (image_after torn start calls)
-image_after-call torn start (Write at new) calls = refl
-image_after-call torn start (FailedWrite at new) calls = refl
-image_after-call torn start (Read at count) calls = refl
-image_after-call torn start Sync calls = refl
-image_after-call torn start FailedCall calls = refl

@@ -1,6 +1,4 @@
 pub mod Allowed
 pub mod Images
-pub mod MemoryLemmas
 pub mod Poking
-pub mod RecordLemmas
-pub mod Replay
+pub mod Records

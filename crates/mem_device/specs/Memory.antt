@@ -1,7 +1,8 @@
 -- A device in memory: what contracts see of it, and which of its calls fail.
-use Rattle.std.specs.Prelude.{◌⊎◌, ℕ, ◌+◌, ◌-◌, ◌^◌, ◌<◌, ◌≤◌, List, [], ◌∷◌, length, slice_set, replicate, map, Contains, Some, ◌&&◌, nat_le, nat_lt, if◌then◌else◌}
+use Rattle.std.specs.Prelude.{◌⊎◌, ℕ, ◌+◌, ◌-◌, ◌^◌, ◌<◌, ◌≤◌, List, [], ◌∷◌, length, slice_index, slice_set, replicate, map, Contains, ◌&&◌, nat_le, nat_lt, if◌then◌else◌}
+use Rattle.std.specs.List.{sum_by}
 use Rattle.dev_model.specs.Counts.{next_count}
-use Rattle.dev_model.specs.Story.{Call, Read, Write, Sync, FailedWrite, FailedCall, Past, DeviceState, Story}
+use Rattle.dev_model.specs.Story.{Bytes, Call, Write, FailedWrite, FailedCall, Past, Story}
 
 -- The bytes at clock 0 and each call since; the room for calls and for the bytes of writes; the clock numbers of the calls
 -- that fail.
@@ -14,24 +15,26 @@ pub record MemoryState : Type 0 where
   pub fail : List ℕ
   pub faults : ℕ
 
-abbrev pub story_of : MemoryState → Story
-story_of d = record { start = d.start; past = d.past }
+-- the bytes of a list, and 0 past its end
+abbrev pub place : List ℕ → Bytes
+place bytes i = slice_index bytes i
 
-abbrev pub seen_of : MemoryState → DeviceState
-seen_of d = record { pages = d.pages; clock = length d.past; faults = d.faults; story = Some (story_of d) }
+abbrev pub story_of : MemoryState → Story
+story_of d = record { start = place d.start; past = d.past }
 
 -- so many bytes 0; opaque, since a device's length is a numeral that would unfold
 unfoldable pub zeros : ℕ → List ℕ
 zeros n = replicate n 0
 
+-- how many bytes this call wrote or tried to write
+abbrev pub bytes_in : Call → ℕ
+bytes_in (Write at new) = length new
+bytes_in (FailedWrite at new) = length new
+bytes_in other = 0
+
 -- how many bytes the writes among these calls have
 abbrev pub bytes_noted : Past → ℕ
-bytes_noted [] = 0
-bytes_noted (Write at new ∷ past) = length new + bytes_noted past
-bytes_noted (FailedWrite at new ∷ past) = length new + bytes_noted past
-bytes_noted (Read at count ∷ past) = bytes_noted past
-bytes_noted (Sync ∷ past) = bytes_noted past
-bytes_noted (FailedCall ∷ past) = bytes_noted past
+bytes_noted past = sum_by bytes_in past
 
 -- the next call has a clock number and room in the record
 abbrev pub HasCallLeft : MemoryState → Type 0
@@ -61,9 +64,7 @@ poked_list at byte from bytes = if nat_le from at && nat_lt (at - from) (length 
 abbrev pub poked_call : (at byte : ℕ) → Call → Call
 poked_call at byte (Write from new) = Write from (poked_list at byte from new)
 poked_call at byte (FailedWrite from new) = FailedWrite from (poked_list at byte from new)
-poked_call at byte (Read from count) = Read from count
-poked_call at byte Sync = Sync
-poked_call at byte FailedCall = FailedCall
+poked_call at byte other = other
 
 -- the state after a byte was changed in the start and in each write that covers it
 abbrev pub poked : (at byte : ℕ) → MemoryState → MemoryState

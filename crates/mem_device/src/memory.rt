@@ -1,14 +1,13 @@
 // A device in memory, which fails where it is told to and keeps a record of its calls.
 ghost use Rattle.std.specs.Prelude.{◌≡◌, ◌⊎◌, ◌+◌, ◌-◌, ◌*◌, ◌^◌, ◌<◌, ◌≤◌, ◌↔◌, [], ◌∷◌, length, IsTrue, IfOk, OnOk, OnErr, ℕ, slice_index, Some, min, Err, IsErr};
-ghost use Rattle.dev_model.specs.Story.{Read, Write, Sync, FailedWrite, FailedCall, IsImage, WhereTold, patched};
-ghost use Rattle.dev_model.specs.Answers.{IsReadFrom, MadeCall};
-ghost use Rattle.dev_model.specs.Counts.{next_count};
-ghost use Rattle.mem_device.specs.Inside.{clock_of-story};
-ghost use Rattle.mem_device.specs.Memory.{zeros, story_of, seen_of, bytes_noted, HasCallLeft, IsListed, HasRoom, Refuses, with_failure, poked};
-ghost use Rattle.dev_model.specs.Story.{place};
+ghost use Rattle.dev_model.specs.Story.{Read, Write, Sync, FailedWrite, FailedCall, IsImage, WhereTold, bytes_after};
+ghost use Rattle.dev_model.specs.Answers.{IsReadFrom, Tells};
+ghost use Rattle.dev_model.specs.Counts.{HasCause, next_count};
+ghost use Rattle.mem_device.specs.Inside.{clock_of-story, call_of, size_of, IsOnDevice};
+ghost use Rattle.mem_device.specs.Memory.{place, zeros, story_of, bytes_noted, HasCallLeft, IsListed, HasRoom, Refuses, with_failure, poked};
 ghost use Rattle.mem_device.specs.TornImages.{image_at};
 
-use crate::record::CallRecord;
+use crate::record::{CallRecord, Kept};
 use crate::torn::Torn;
 use dev_model::{Device, Failed};
 use std::alloc::{AllocError, Global};
@@ -43,28 +42,27 @@ pub struct MemDevice {
     start: Vec<u8>,
     bytes: Vec<u8>,
     kept: CallRecord,
-    missed: u64,
     fail: Vec<u64>,
     faults: u64,
 }
 
 impl Model for MemDevice {
     ghost use Rattle.mem_device.specs.Memory.{MemoryState};
-    ghost use Rattle.mem_device.specs.Inside.{IsSoundMemory, with_missed};
+    ghost use Rattle.mem_device.specs.Inside.{IsSoundMemory};
 
     ghost Value = { MemoryState };
 
     ghost view = { λ d. record {
       pages = d.pages;
       start = d.start.items;
-      past = with_missed d.missed d.kept.past;
+      past = d.kept.past;
       room_calls = d.kept.room_calls;
       room_bytes = d.kept.room_bytes;
       fail = d.fail.items;
       faults = d.faults;
     } };
 
-    ghost invariant = { λ d. IsSoundMemory d.pages d.start.items d.bytes.items d.kept.past d.kept.room_calls d.missed };
+    ghost invariant = { λ d. IsSoundMemory d.pages d.start.items d.bytes.items d.kept.past };
 }
 
 impl MemDevice {
@@ -97,7 +95,6 @@ impl MemDevice {
             start,
             bytes: contents,
             kept,
-            missed: 0,
             fail,
             faults: 0,
         })
@@ -117,8 +114,7 @@ impl MemDevice {
         let mut image = self.start.to_vec(self.alloc)?;
         let mut bytes = self.start.to_vec(self.alloc)?;
         let kept = CallRecord::new(self.alloc, self.kept.room_calls(), self.kept.room_bytes())?;
-        let count = (moment as usize).min(self.kept.len());
-        self.kept.replay(count, torn, &mut bytes, &mut image);
+        self.kept.replay(moment, torn, &mut bytes, &mut image);
         bytes.copy_from_slice(&image);
         Ok(MemDevice {
             alloc: self.alloc,
@@ -126,7 +122,6 @@ impl MemDevice {
             start: image,
             bytes,
             kept,
-            missed: 0,
             fail: Vec::new(self.alloc),
             faults: 0,
         })
@@ -147,7 +142,7 @@ impl MemDevice {
         ensures count { result ≡ length self.now.past }
         ensures fits { length self.now.past < 2 ^ 64 }
     {
-        self.kept.len() as u64 + self.missed
+        self.kept.len()
     }
 
     fn has_call_left(&self) -> bool
@@ -181,14 +176,7 @@ impl MemDevice {
         requires full { self.old.room_calls ≤ length self.old.past }
         ensures { self.new ≡ record self.old { past = FailedCall ∷ self.old.past } }
     {
-        self.missed += 1;
-    }
-
-    fn note_failed(&mut self)
-        requires { HasCallLeft self.old }
-        ensures { self.new ≡ record self.old { past = FailedCall ∷ self.old.past } }
-    {
-        self.kept.note_failed();
+        self.kept.miss();
     }
 
     fn fail_call(&mut self)
@@ -199,52 +187,41 @@ impl MemDevice {
         self.count_fault();
         if self.calls() < u64::MAX {
             if self.has_call_left() {
-                self.note_failed();
+                self.note(Kept::Failed, &[]);
             } else {
                 self.miss_call();
             }
         }
     }
 
-    fn fail_write(&mut self, at: u64, bytes: &[u8])
-        requires counted { HasCallLeft self.old }
-        requires room { HasRoom self.old (length bytes.now) }
-        requires range { at + length bytes.now ≤ self.old.pages * 4096 }
-        ensures { self.new ≡ record self.old { past = FailedWrite at bytes.now ∷ self.old.past } }
+    // Keeps a call, and writes what it writes.
+    fn note(&mut self, call: Kept, bytes: &[u8])
+        requires left { HasCallLeft self.old }
+        requires size { size_of call ≡ length bytes.now }
+        requires room { 0 < length bytes.now → HasRoom self.old (length bytes.now) }
+        requires on_device { IsOnDevice (self.old.pages * 4096) (call_of bytes.now call) }
+        ensures { self.new ≡ record self.old { past = call_of bytes.now call ∷ self.old.past } }
     {
-        self.kept.note_failed_write(at, bytes);
+        change(call, bytes, &mut self.bytes);
+        self.kept.note(call, bytes);
     }
 
-    fn fetch(&mut self, at: u64, buf: &mut [u8])
-        requires counted { HasCallLeft self.old }
-        requires range { at + length buf.old ≤ self.old.pages * 4096 }
-        ensures state { self.new ≡ record self.old { past = Read at (length buf.old) ∷ self.old.past } }
-        ensures bytes { IsReadFrom at buf.new (story_of self.old) }
+    fn fetch(&self, at: u64, buf: &mut [u8])
+        requires { at + length buf.old ≤ self.now.pages * 4096 }
+        ensures { IsReadFrom at buf.new (story_of self.now) }
     {
         read_part(&self.bytes, at as usize, buf);
-        self.kept.note_read(at, buf.len());
-    }
-
-    fn store(&mut self, at: u64, bytes: &[u8])
-        requires counted { HasCallLeft self.old }
-        requires room { HasRoom self.old (length bytes.now) }
-        requires range { at + length bytes.now ≤ self.old.pages * 4096 }
-        ensures { self.new ≡ record self.old { past = Write at bytes.now ∷ self.old.past } }
-    {
-        write_part(&mut self.bytes, at as usize, bytes);
-        self.kept.note_write(at, bytes);
-    }
-
-    fn settle(&mut self)
-        requires { HasCallLeft self.old }
-        ensures { self.new ≡ record self.old { past = Sync ∷ self.old.past } }
-    {
-        self.kept.note_sync();
     }
 }
 
 impl Device for MemDevice {
-    ghost seen = { seen_of };
+    ghost pages = { λ d. d.pages };
+
+    ghost clock = { λ d. length d.past };
+
+    ghost fault_count = { λ d. d.faults };
+
+    ghost story = { λ d. Some (story_of d) };
 
     fn pages(&self) -> u32 {
         self.pages
@@ -260,14 +237,20 @@ impl Device for MemDevice {
 
     fn read(&mut self, at: u64, buf: &mut [u8]) -> Result<(), Failed>
         requires { at + length buf.old ≤ self.old.pages * 4096 }
-        ensures made { MadeCall (Read at (length buf.old)) (seen_of self.old) (seen_of self.new) result }
+        ensures told { Tells (Read at (length buf.old)) (Some (story_of self.old)) (Some (story_of self.new)) result }
         ensures bytes { OnOk result (WhereTold (Some (story_of self.old)) (IsReadFrom at buf.new)) }
+        ensures time { length self.new.past ≡ next_count (length self.old.past) }
+        ensures ticks { OnOk result (length self.new.past ≡ length self.old.past + 1) }
+        ensures same_pages { self.new.pages ≡ self.old.pages }
+        ensures cause { HasCause self.old.faults self.new.faults result }
         ensures exact { IsErr result ↔ Refuses self.old }
         ensures state { OnOk result (self.new ≡ record self.old { past = Read at (length buf.old) ∷ self.old.past }) }
         ensures failed { OnErr result (self.new ≡ with_failure self.old) }
     {
         if self.has_call_left() && !self.is_listed() {
             self.fetch(at, buf);
+            let count = buf.len();
+            self.note(Kept::Read { at, count }, &[]);
             Ok(())
         } else {
             self.fail_call();
@@ -277,7 +260,11 @@ impl Device for MemDevice {
 
     fn write(&mut self, at: u64, bytes: &[u8]) -> Result<(), Failed>
         requires { at + length bytes.now ≤ self.old.pages * 4096 }
-        ensures made { MadeCall (Write at bytes.now) (seen_of self.old) (seen_of self.new) result }
+        ensures told { Tells (Write at bytes.now) (Some (story_of self.old)) (Some (story_of self.new)) result }
+        ensures time { length self.new.past ≡ next_count (length self.old.past) }
+        ensures ticks { OnOk result (length self.new.past ≡ length self.old.past + 1) }
+        ensures same_pages { self.new.pages ≡ self.old.pages }
+        ensures cause { HasCause self.old.faults self.new.faults result }
         ensures exact { IsErr result ↔
             (Refuses self.old ⊎ (self.old.room_bytes < bytes_noted self.old.past + length bytes.now)) }
         ensures state { OnOk result (self.new ≡ record self.old { past = Write at bytes.now ∷ self.old.past }) }
@@ -291,27 +278,32 @@ impl Device for MemDevice {
         ensures past_room { self.old.room_bytes < bytes_noted self.old.past + length bytes.now →
             self.new ≡ with_failure self.old }
     {
-        if !self.has_call_left() || !self.has_room(bytes.len()) {
+        let count = bytes.len();
+        if !self.has_call_left() || !self.has_room(count) {
             self.fail_call();
             Err(Failed)
         } else if self.is_listed() {
             self.count_fault();
-            self.fail_write(at, bytes);
+            self.note(Kept::FailedWrite { at, count }, bytes);
             Err(Failed)
         } else {
-            self.store(at, bytes);
+            self.note(Kept::Write { at, count }, bytes);
             Ok(())
         }
     }
 
     fn sync(&mut self) -> Result<(), Failed>
-        ensures made { MadeCall Sync (seen_of self.old) (seen_of self.new) result }
+        ensures told { Tells Sync (Some (story_of self.old)) (Some (story_of self.new)) result }
+        ensures time { length self.new.past ≡ next_count (length self.old.past) }
+        ensures ticks { OnOk result (length self.new.past ≡ length self.old.past + 1) }
+        ensures same_pages { self.new.pages ≡ self.old.pages }
+        ensures cause { HasCause self.old.faults self.new.faults result }
         ensures exact { IsErr result ↔ Refuses self.old }
         ensures state { OnOk result (self.new ≡ record self.old { past = Sync ∷ self.old.past }) }
         ensures failed { OnErr result (self.new ≡ with_failure self.old) }
     {
         if self.has_call_left() && !self.is_listed() {
-            self.settle();
+            self.note(Kept::Sync, &[]);
             Ok(())
         } else {
             self.fail_call();
@@ -329,9 +321,13 @@ fn read_part(bytes: &[u8], at: usize, buf: &mut [u8])
     buf.copy_from_slice(&bytes[at..at + buf.len()]);
 }
 
-fn write_part(bytes: &mut [u8], at: usize, new: &[u8])
-    requires { at + length new.now ≤ length bytes.old }
-    ensures { (i : ℕ) → slice_index bytes.new i ≡ patched at new.now (place bytes.old) i }
+// Does a call to the bytes as read.
+fn change(call: Kept, new: &[u8], bytes: &mut [u8])
+    requires { IsOnDevice (length bytes.old) (call_of new.now call) }
+    ensures { (i : ℕ) → slice_index bytes.new i ≡ bytes_after (place bytes.old) (call_of new.now call ∷ []) i }
 {
-    bytes[at..at + new.len()].copy_from_slice(new);
+    if let Kept::Write { at, .. } = call {
+        let at = at as usize;
+        bytes[at..at + new.len()].copy_from_slice(new);
+    }
 }

@@ -1,42 +1,60 @@
 // A record of calls that takes no memory after it was made.
-ghost use Rattle.std.specs.Prelude.{◌≡◌, ◌+◌, ◌<◌, ◌≤◌, ◌↔◌, ◌++◌, [], ◌∷◌, length, IsTrue, IfOk, vec_len, vec_capacity, ℕ, slice_index, map};
-ghost use Rattle.dev_model.specs.Story.{Read, Write, Sync, FailedWrite, FailedCall};
-ghost use Rattle.mem_device.specs.Memory.{bytes_noted, poked_call};
-ghost use Rattle.mem_device.specs.Inside.{call_of, calls_onto, IsWithin, AreWithin, poked_in, poked_in_all};
-ghost use Rattle.dev_model.specs.Story.{place};
-ghost use Rattle.mem_device.specs.Inside.{bytes_with, image_with, IsOnDevice, AreOnDevice};
-ghost use Rattle.mem_device.specs.TornImages.{image_during, image_at};
+ghost use Rattle.std.specs.Prelude.{◌≡◌, ◌+◌, ◌<◌, ◌-◌, ◌^◌, ◌↔◌, ◌≤◌, ◌++◌, [], ◌∷◌, length, reverse, IsTrue, IfOk, vec_len, vec_capacity, ℕ, slice_index, map};
+ghost use Rattle.std.specs.List.{sum_by};
+ghost use Rattle.dev_model.specs.Story.{FailedCall, bytes_after};
+ghost use Rattle.mem_device.specs.Memory.{place, bytes_noted, poked_call};
+ghost use Rattle.mem_device.specs.Inside.{call_of, calls_of, size_of, IsOnDevice, AreOnDevice};
+ghost use Rattle.mem_device.specs.TornImages.{image_with, image_during, image_at};
 
 use crate::torn::{Torn, overlay};
 use std::alloc::{AllocError, Global};
 use std::marker::Model;
 
+/// A call as it is kept: what it wrote stands elsewhere.
 #[derive(Clone, Copy)]
 pub enum Kept {
     Read { at: u64, count: usize },
-    Write { at: u64, from: usize, count: usize },
-    FailedWrite { at: u64, from: usize, count: usize },
+    Write { at: u64, count: usize },
+    FailedWrite { at: u64, count: usize },
     Sync,
     Failed,
 }
 
+impl Kept {
+    // How many of the written bytes are those of this call.
+    fn size(self) -> usize
+        ensures { result ≡ size_of self }
+    {
+        match self {
+            Kept::Write { count, .. } | Kept::FailedWrite { count, .. } => count,
+            Kept::Read { .. } | Kept::Sync | Kept::Failed => 0,
+        }
+    }
+}
+
+/// The calls, and behind each other the bytes that they wrote. Past the room for calls they are only counted.
 #[derive(Drop)]
 pub struct CallRecord {
     calls: Vec<Kept>,
     written: Vec<u8>,
+    missed: u64,
     room_calls: usize,
     room_bytes: usize,
 }
 
 impl Model for CallRecord {
-    ghost use Rattle.std.specs.Prelude.{[], vec_capacity};
-    ghost use Rattle.mem_device.specs.Inside.{Noted, calls_onto, IsSound};
+    ghost use Rattle.std.specs.Prelude.{reverse, vec_capacity};
+    ghost use Rattle.mem_device.specs.Inside.{Noted, calls_of, with_missed, IsSound};
 
     ghost Value = { Noted };
 
-    ghost view = { λ r. record { past = calls_onto [] r.calls.items r.written.items; room_calls = r.room_calls; room_bytes = r.room_bytes } };
+    ghost view = { λ r. record {
+      past = with_missed r.missed (reverse (calls_of r.calls.items r.written.items));
+      room_calls = r.room_calls;
+      room_bytes = r.room_bytes;
+    } };
 
-    ghost invariant = { λ r. IsSound r.calls.items r.written.items r.room_calls r.room_bytes (vec_capacity r.calls) (vec_capacity r.written) };
+    ghost invariant = { λ r. IsSound r.calls.items r.written.items r.missed r.room_calls r.room_bytes (vec_capacity r.calls) (vec_capacity r.written) };
 }
 
 impl CallRecord {
@@ -50,16 +68,17 @@ impl CallRecord {
         Ok(CallRecord {
             calls: Vec::with_capacity(alloc, room_calls)?,
             written: Vec::with_capacity(alloc, room_bytes)?,
+            missed: 0,
             room_calls,
             room_bytes,
         })
     }
 
-    /// How many calls are kept.
-    pub fn len(&self) -> usize
+    /// How many calls there were.
+    pub fn len(&self) -> u64
         ensures { result ≡ length self.now.past }
     {
-        self.calls.len()
+        self.calls.len() as u64 + self.missed
     }
 
     pub fn room_calls(&self) -> usize
@@ -75,13 +94,13 @@ impl CallRecord {
     }
 
     /// Makes the image of a moment out of the bytes at the start, which stand in both buffers.
-    pub fn replay(&self, moment: usize, torn: Torn, bytes: &mut [u8], image: &mut [u8])
+    pub fn replay(&self, moment: u64, torn: Torn, bytes: &mut [u8], image: &mut [u8])
         requires on_device { AreOnDevice (length bytes.old) self.now.past }
         requires same { image.old ≡ bytes.old }
-        requires moment { moment ≤ length self.now.past }
         ensures { (i : ℕ) → slice_index image.new i ≡ image_at torn (place image.old) self.now.past moment i }
     {
-        replay_calls(&self.calls, &self.written, moment, torn, bytes, image);
+        let count = (moment as usize).min(self.calls.len());
+        replay_calls(&self.calls, &self.written, count, torn, bytes, image);
     }
 
     /// Changes the byte at a place of the device in each write that covers it.
@@ -104,80 +123,35 @@ impl CallRecord {
         count <= self.room_bytes - self.written.len()
     }
 
-    pub fn note_read(&mut self, at: u64, count: usize)
-        requires { length self.old.past < self.old.room_calls }
-        ensures { self.new ≡ record self.old { past = Read at count ∷ self.old.past } }
-    {
-        push_within(&mut self.calls, Kept::Read { at, count });
-    }
-
-    pub fn note_sync(&mut self)
-        requires { length self.old.past < self.old.room_calls }
-        ensures { self.new ≡ record self.old { past = Sync ∷ self.old.past } }
-    {
-        push_within(&mut self.calls, Kept::Sync);
-    }
-
-    pub fn note_failed(&mut self)
-        requires { length self.old.past < self.old.room_calls }
+    /// Counts a call that has no room.
+    pub fn miss(&mut self)
+        requires counted { length self.old.past < 2 ^ 64 - 1 }
+        requires full { self.old.room_calls ≤ length self.old.past }
         ensures { self.new ≡ record self.old { past = FailedCall ∷ self.old.past } }
     {
-        push_within(&mut self.calls, Kept::Failed);
+        self.missed += 1;
     }
 
-    pub fn note_write(&mut self, at: u64, bytes: &[u8])
+    /// Keeps one call more, with the bytes that it wrote.
+    pub fn note(&mut self, call: Kept, bytes: &[u8])
         requires calls { length self.old.past < self.old.room_calls }
-        requires room { bytes_noted self.old.past + length bytes.now ≤ self.old.room_bytes }
-        ensures { self.new ≡ record self.old { past = Write at bytes.now ∷ self.old.past } }
+        requires size { size_of call ≡ length bytes.now }
+        requires room { 0 < length bytes.now → bytes_noted self.old.past + length bytes.now ≤ self.old.room_bytes }
+        ensures { self.new ≡ record self.old { past = call_of bytes.now call ∷ self.old.past } }
     {
-        let from = self.written.len();
-        push_within(
-            &mut self.calls,
-            Kept::Write {
-                at,
-                from,
-                count: bytes.len(),
-            },
-        );
-        extend_within(&mut self.written, bytes);
-    }
-
-    pub fn note_failed_write(&mut self, at: u64, bytes: &[u8])
-        requires calls { length self.old.past < self.old.room_calls }
-        requires room { bytes_noted self.old.past + length bytes.now ≤ self.old.room_bytes }
-        ensures { self.new ≡ record self.old { past = FailedWrite at bytes.now ∷ self.old.past } }
-    {
-        let from = self.written.len();
-        push_within(
-            &mut self.calls,
-            Kept::FailedWrite {
-                at,
-                from,
-                count: bytes.len(),
-            },
-        );
+        push_within(&mut self.calls, call);
         extend_within(&mut self.written, bytes);
     }
 }
 
 // Changes the byte at a place of the device in what a call wrote.
-fn poke_call(call: Kept, written: &mut [u8], at: u64, byte: u8)
-    requires { IsWithin (length written.old) call }
-    ensures { written.new ≡ poked_in at byte call written.old }
+fn poke_call(call: Kept, bytes: &mut [u8], at: u64, byte: u8)
+    ensures { call_of bytes.new call ≡ poked_call at byte (call_of bytes.old call) }
 {
     match call {
-        Kept::Write {
-            at: start,
-            from,
-            count,
-        }
-        | Kept::FailedWrite {
-            at: start,
-            from,
-            count,
-        } => {
-            if start <= at && at - start < count as u64 {
-                written[from + (at - start) as usize] = byte;
+        Kept::Write { at: start, .. } | Kept::FailedWrite { at: start, .. } => {
+            if start <= at && at - start < bytes.len() as u64 {
+                bytes[(at - start) as usize] = byte;
             }
         }
         Kept::Read { .. } | Kept::Sync | Kept::Failed => {}
@@ -185,45 +159,43 @@ fn poke_call(call: Kept, written: &mut [u8], at: u64, byte: u8)
 }
 
 fn poke_calls(calls: &[Kept], written: &mut [u8], at: u64, byte: u8)
-    requires { AreWithin (length written.old) calls.now }
-    ensures { written.new ≡ poked_in_all at byte calls.now written.old }
+    requires { sum_by size_of calls.now ≡ length written.old }
+    ensures { calls_of calls.now written.new ≡ map (poked_call at byte) (calls_of calls.now written.old) }
 {
+    let mut from = 0;
     for call in calls {
-        poke_call(*call, written, at, byte);
+        let end = from + call.size();
+        poke_call(*call, &mut written[from..end], at, byte);
+        from = end;
     }
 }
 
 // Does one call more to the bytes as read and to an image.
-fn replay_call(call: Kept, written: &[u8], torn: Torn, bytes: &mut [u8], image: &mut [u8])
-    requires within { IsWithin (length written.now) call }
-    requires on_device { IsOnDevice (length bytes.old) (call_of written.now call) }
+fn replay_call(call: Kept, new: &[u8], torn: Torn, bytes: &mut [u8], image: &mut [u8])
+    requires on_device { IsOnDevice (length bytes.old) (call_of new.now call) }
     requires same { length image.old ≡ length bytes.old }
-    ensures bytes { (i : ℕ) → slice_index bytes.new i ≡ bytes_with (call_of written.now call) (place bytes.old) i }
-    ensures image { (i : ℕ) → slice_index image.new i ≡ image_with torn (call_of written.now call) (place bytes.old) (place image.old) i }
+    ensures bytes { (i : ℕ) → slice_index bytes.new i ≡ bytes_after (place bytes.old) (call_of new.now call ∷ []) i }
+    ensures image { (i : ℕ) → slice_index image.new i ≡ image_with torn (call_of new.now call) (place bytes.old) (place image.old) i }
 {
     match call {
-        Kept::Write { at, from, count } => {
-            let new = &written[from..from + count];
+        Kept::Write { at, .. } => {
             overlay(Torn::New, at as usize, new, bytes);
             overlay(torn, at as usize, new, image);
         }
-        Kept::FailedWrite { at, from, count } => {
-            overlay(torn, at as usize, &written[from..from + count], image);
-        }
+        Kept::FailedWrite { at, .. } => overlay(torn, at as usize, new, image),
         Kept::Sync => image.copy_from_slice(bytes),
         Kept::Read { .. } | Kept::Failed => {}
     }
 }
 
 // Tears the range of a call that is under way.
-fn tear_call(call: Kept, written: &[u8], torn: Torn, image: &mut [u8])
-    requires within { IsWithin (length written.now) call }
-    requires on_device { IsOnDevice (length image.old) (call_of written.now call) }
-    ensures { (i : ℕ) → slice_index image.new i ≡ image_during torn (call_of written.now call) (place image.old) i }
+fn tear_call(call: Kept, new: &[u8], torn: Torn, image: &mut [u8])
+    requires on_device { IsOnDevice (length image.old) (call_of new.now call) }
+    ensures { (i : ℕ) → slice_index image.new i ≡ image_during torn (call_of new.now call) (place image.old) i }
 {
     match call {
-        Kept::Write { at, from, count } | Kept::FailedWrite { at, from, count } => {
-            overlay(torn, at as usize, &written[from..from + count], image);
+        Kept::Write { at, .. } | Kept::FailedWrite { at, .. } => {
+            overlay(torn, at as usize, new, image);
         }
         Kept::Read { .. } | Kept::Sync | Kept::Failed => {}
     }
@@ -238,17 +210,21 @@ fn replay_calls(
     bytes: &mut [u8],
     image: &mut [u8],
 )
-    requires within { AreWithin (length written.now) calls.now }
-    requires on_device { AreOnDevice (length bytes.old) (calls_onto [] calls.now written.now) }
+    requires written { sum_by size_of calls.now ≡ length written.now }
+    requires on_device { AreOnDevice (length bytes.old) (reverse (calls_of calls.now written.now)) }
     requires same { image.old ≡ bytes.old }
     requires moment { moment ≤ length calls.now }
-    ensures { (i : ℕ) → slice_index image.new i ≡ image_at torn (place image.old) (calls_onto [] calls.now written.now) moment i }
+    ensures { (i : ℕ) → slice_index image.new i ≡ image_at torn (place image.old) (reverse (calls_of calls.now written.now)) moment i }
 {
+    let mut from = 0;
     for index in 0..moment {
-        replay_call(calls[index], written, torn, bytes, image);
+        let end = from + calls[index].size();
+        replay_call(calls[index], &written[from..end], torn, bytes, image);
+        from = end;
     }
     if moment < calls.len() {
-        tear_call(calls[moment], written, torn, image);
+        let end = from + calls[moment].size();
+        tear_call(calls[moment], &written[from..end], torn, image);
     }
 }
 
