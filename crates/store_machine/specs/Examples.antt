@@ -13,6 +13,7 @@ use Rattle.table_model.specs.Commands as command
 use Rattle.wal_log.specs.declared.log.Log.{Log}
 use Rattle.wal_log.specs.declared.records.LogOp.TheVariants.{Put, Del}
 use Rattle.format_numbers.specs.declared.TheConstants.{LOG_START}
+use Rattle.comp_dir.specs.Examples.{component}
 use Rattle.comp_dir.specs.declared.slots.Slot.{Slot}
 use Rattle.page_codec.specs.declared.kinds.TheConstants.{PRIMARY_LEAF}
 use Rattle.primary_ix.specs.Wanted.{matter_row}
@@ -247,19 +248,7 @@ abbrev pub eight : Row
 eight = record { key = 8; point = record { x = 5; y = 6 }; note = codes "b" }
 
 abbrev pub slot_of : (page last : ℕ) → Slot
-slot_of page last = record {
-  index = 0;
-  first = page;
-  pages = 1;
-  first_lsn = last;
-  last_lsn = last;
-  main_rows = 1;
-  second_rows = 0;
-  second_at = 0;
-  filter_at = 0;
-  filter_bits = 0;
-  table_rows = last;
-}
+slot_of page last = record (component page last last) { index = 0; table_rows = last }
 
 abbrev pub two_components : Opening
 two_components = record start {

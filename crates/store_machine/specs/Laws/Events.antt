@@ -34,7 +34,7 @@ use Rattle.store_machine.specs.declared.events.Refusal.TheVariants.{Fault}
 use Rattle.store_state.specs.Lists.{Lists}
 use Rattle.store_state.specs.Reading.{IsLegible}
 use Rattle.store_machine.specs.Runs.{Way, way_to, AreReads, MakesCalls, MakesWrite, Allows, IsFront, IsOwned, Acknowledges, Stops, TakesTime, is_fault, log_calls}
-use Rattle.store_machine.specs.Laws.Steps.{makes, passes, event_of, GoesOn}
+use Rattle.store_machine.specs.Laws.Steps.{makes, passes, event_of, Changes, GoesOn}
 use Rattle.store_machine.specs.Laws.Reading.{HasOnlyRead, gone-read, IsPartBy, is_failed, read_calls, reads-go_on, reads-made, reads-time}
 use Rattle.store_machine.specs.Laws.Working.{Works, works-go_on, works-time, WorkFails, stopped_calls, stopped_state, fails-go_on, fails-time, stays-there}
 use Rattle.store_machine.specs.declared.events.Action.{Action}
@@ -69,6 +69,24 @@ allowed old new owner action made failed owes known o m has tells calls ticks = 
   time = let at : old.device.clock ≡ m.clock = has.clock in omega (arith, at, owes.time);
 }
 
+-- what a call that stops nothing does to the store
+abbrev unstopped : (old : StoreState) (now : DeviceState) (log : Log) (lists : Lists) (seq : ℕ) (action : Action) (table : Table → Table) (disk : List (List PrimRow) → List (List PrimRow)) → now.pages ≡ old.device.pages
+    → ((m : Machine) → Has old m → does action m ≡ record m { seq = seq; log = log; lists = lists; disk = disk m.disk; table = table m.table })
+    → Changes old (record old { device = now; log = log; lists = lists; seq = seq }) action false
+unstopped old now log lists seq action table disk pages done = record {
+  opened_at = refl;
+  opened_faults = refl;
+  declared = refl;
+  acks = refl;
+  pages = pages;
+  stopped = refl;
+  running = λ no. absurd (let e : true ≡ false = sym no in cc);
+  group = λ no. absurd (let e : true ≡ false = sym no in cc);
+  table = table;
+  disk = disk;
+  done = done;
+}
+
 -- a call that only reads; it may draw the next number, and leave the table by another name
 pub reads-named : {X : Type 0} (old : StoreState) (now : DeviceState) (way : Lists → Way) (result : Result X PageFault) (pages : List ℕ) (seq owner : ℕ) (action : Action) (change : Table → Table) → HasOnlyRead old now way result pages
     → Owes old now owner action false
@@ -79,19 +97,7 @@ pub reads-named : {X : Type 0} (old : StoreState) (now : DeviceState) (way : Lis
     → Makes old (record old { device = now; seq = seq }) owner action
 reads-named old now way result pages seq owner action change reads owes done same fault are =
     passes old (record old { device = now; seq = seq }) owner action (read_calls old result pages) false
-    (record {
-      opened_at = refl;
-      opened_faults = refl;
-      declared = refl;
-      acks = refl;
-      pages = reads.same_pages;
-      stopped = refl;
-      running = λ no. absurd (let e : true ≡ false = sym no in cc);
-      group = λ no. absurd (let e : true ≡ false = sym no in cc);
-      table = change;
-      disk = λ d. d;
-      done = done;
-    })
+    (unstopped old now old.log old.lists seq action change (λ d. d) reads.same_pages done)
     (gone-read old now way result pages reads) owes.causes
     (λ known o m has tells. allowed old (record old { device = now; seq = seq }) owner action (read_calls old result pages) false owes known o m has tells
     (λ is_known. are m (read_calls old result pages) (reads-made o old now way result pages m reads has (tells is_known)))
@@ -117,19 +123,7 @@ pub still-event : (old : StoreState) (lists : Lists) (seq owner : ℕ) (action :
     → Makes old (record old { lists = lists; seq = seq }) owner action
 still-event old lists seq owner action owes done well none goes =
     passes old (record old { lists = lists; seq = seq }) owner action [] false
-    (record {
-      opened_at = refl;
-      opened_faults = refl;
-      declared = refl;
-      acks = refl;
-      pages = refl;
-      stopped = refl;
-      running = λ no. absurd (let e : true ≡ false = sym no in cc);
-      group = λ no. absurd (let e : true ≡ false = sym no in cc);
-      table = λ t. t;
-      disk = λ d. d;
-      done = done;
-    })
+    (unstopped old old.device old.log lists seq action (λ t. t) (λ d. d) refl done)
     (gone-same old.device.story) owes.causes
     (λ known o m has tells. allowed old (record old { lists = lists; seq = seq }) owner action [] false owes known o m has tells (λ _. none m)
     (λ _. subst (λ (fault : Bool). TakesTime fault m.clock [] old.device.clock) (sym well) (let at : old.device.clock ≡ m.clock = has.clock in omega (arith, at))))
@@ -149,19 +143,7 @@ pub works-event : (old : StoreState) (now : DeviceState) (log : Log) (lists : Li
     → Makes old (record old { device = now; log = log; lists = lists }) owner action
 works-event old now log lists disk_after plan owner action pages works owes done well are =
     passes old (record old { device = now; log = log; lists = lists }) owner action (ok_calls old.device.clock plan) false
-    (record {
-      opened_at = refl;
-      opened_faults = refl;
-      declared = refl;
-      acks = refl;
-      pages = pages;
-      stopped = refl;
-      running = λ no. absurd (let e : true ≡ false = sym no in cc);
-      group = λ no. absurd (let e : true ≡ false = sym no in cc);
-      table = λ t. t;
-      disk = disk_after;
-      done = done;
-    })
+    (unstopped old now log lists old.seq action (λ t. t) disk_after pages done)
     (gone-noted plan old.device.story now.story works.did) owes.causes
     (λ known o m has tells. allowed old (record old { device = now; log = log; lists = lists }) owner action (ok_calls old.device.clock plan) false owes known o m has tells (λ _. are m has)
     (λ is_known. subst (λ (fault : Bool). TakesTime fault m.clock (ok_calls old.device.clock plan) now.clock) (sym well) (works-time o old (record old { device = now; log = log; lists = lists }) disk_after plan m works has (tells is_known))))
