@@ -5,7 +5,8 @@ use Rattle.std.specs.List.{sum_by}
 use Rattle.std.proofs.Common.{ap, refl}
 use Rattle.std.proofs.lemmas.Option.{same_Some}
 use Rattle.dev_model.specs.Story.{Bytes, Call, Calls, Read, Write, Sync, FailedWrite, FailedCall, Past, Story, bytes_after, clock_of}
-use Rattle.mem_device.specs.Memory.{MemoryState, place, story_of, zeros}
+use Rattle.mem_device.specs.Memory.{MemoryState, story_of, zeros}
+use Rattle.dev_model.specs.Story.{place}
 use Rattle.mem_device.specs.declared.record.Kept.{Kept}
 use Rattle.mem_device.specs.declared.record.Kept.TheVariants as stored
 

@@ -1,8 +1,8 @@
 -- A device in memory: what contracts see of it, and which of its calls fail.
-use Rattle.std.specs.Prelude.{◌⊎◌, ℕ, ◌+◌, ◌-◌, ◌^◌, ◌<◌, ◌≤◌, List, [], ◌∷◌, length, slice_index, slice_set, replicate, map, Contains, ◌&&◌, nat_le, nat_lt, if◌then◌else◌}
+use Rattle.std.specs.Prelude.{◌⊎◌, ℕ, ◌+◌, ◌-◌, ◌^◌, ◌<◌, ◌≤◌, List, [], ◌∷◌, length, slice_index, slice_set, replicate, map, Contains, Some, ◌&&◌, nat_le, nat_lt, if◌then◌else◌}
 use Rattle.std.specs.List.{sum_by}
 use Rattle.dev_model.specs.Counts.{next_count}
-use Rattle.dev_model.specs.Story.{Bytes, Call, Write, FailedWrite, FailedCall, Past, Story}
+use Rattle.dev_model.specs.Story.{Bytes, Call, Write, FailedWrite, FailedCall, Past, DeviceState, Story}
 
 -- The bytes at clock 0 and each call since; the room for calls and for the bytes of writes; the clock numbers of the calls
 -- that fail.
@@ -15,12 +15,11 @@ pub record MemoryState : Type 0 where
   pub fail : List ℕ
   pub faults : ℕ
 
--- the bytes of a list, and 0 past its end
-abbrev pub place : List ℕ → Bytes
-place bytes i = slice_index bytes i
-
 abbrev pub story_of : MemoryState → Story
-story_of d = record { start = place d.start; past = d.past }
+story_of d = record { start = d.start; past = d.past }
+
+abbrev pub seen_of : MemoryState → DeviceState
+seen_of d = record { pages = d.pages; clock = length d.past; faults = d.faults; story = Some (story_of d) }
 
 -- so many bytes 0; opaque, since a device's length is a numeral that would unfold
 unfoldable pub zeros : ℕ → List ℕ

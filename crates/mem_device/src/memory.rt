@@ -1,10 +1,11 @@
 // A device in memory, which fails where it is told to and keeps a record of its calls.
 ghost use Rattle.std.specs.Prelude.{◌≡◌, ◌⊎◌, ◌+◌, ◌-◌, ◌*◌, ◌^◌, ◌<◌, ◌≤◌, ◌↔◌, [], ◌∷◌, length, IsTrue, IfOk, OnOk, OnErr, ℕ, slice_index, Some, min, Err, IsErr};
 ghost use Rattle.dev_model.specs.Story.{Read, Write, Sync, FailedWrite, FailedCall, IsImage, WhereTold, bytes_after};
-ghost use Rattle.dev_model.specs.Answers.{IsReadFrom, Tells};
-ghost use Rattle.dev_model.specs.Counts.{HasCause, next_count};
+ghost use Rattle.dev_model.specs.Answers.{IsReadFrom, MadeCall};
+ghost use Rattle.dev_model.specs.Counts.{next_count};
 ghost use Rattle.mem_device.specs.Inside.{clock_of-story, call_of, size_of, IsOnDevice};
-ghost use Rattle.mem_device.specs.Memory.{place, zeros, story_of, bytes_noted, HasCallLeft, IsListed, HasRoom, Refuses, with_failure, poked};
+ghost use Rattle.mem_device.specs.Memory.{zeros, story_of, seen_of, bytes_noted, HasCallLeft, IsListed, HasRoom, Refuses, with_failure, poked};
+ghost use Rattle.dev_model.specs.Story.{place};
 ghost use Rattle.mem_device.specs.TornImages.{image_at};
 
 use crate::record::{CallRecord, Kept};
@@ -215,13 +216,7 @@ impl MemDevice {
 }
 
 impl Device for MemDevice {
-    ghost pages = { λ d. d.pages };
-
-    ghost clock = { λ d. length d.past };
-
-    ghost fault_count = { λ d. d.faults };
-
-    ghost story = { λ d. Some (story_of d) };
+    ghost seen = { seen_of };
 
     fn pages(&self) -> u32 {
         self.pages
@@ -237,12 +232,8 @@ impl Device for MemDevice {
 
     fn read(&mut self, at: u64, buf: &mut [u8]) -> Result<(), Failed>
         requires { at + length buf.old ≤ self.old.pages * 4096 }
-        ensures told { Tells (Read at (length buf.old)) (Some (story_of self.old)) (Some (story_of self.new)) result }
+        ensures made { MadeCall (Read at (length buf.old)) (seen_of self.old) (seen_of self.new) result }
         ensures bytes { OnOk result (WhereTold (Some (story_of self.old)) (IsReadFrom at buf.new)) }
-        ensures time { length self.new.past ≡ next_count (length self.old.past) }
-        ensures ticks { OnOk result (length self.new.past ≡ length self.old.past + 1) }
-        ensures same_pages { self.new.pages ≡ self.old.pages }
-        ensures cause { HasCause self.old.faults self.new.faults result }
         ensures exact { IsErr result ↔ Refuses self.old }
         ensures state { OnOk result (self.new ≡ record self.old { past = Read at (length buf.old) ∷ self.old.past }) }
         ensures failed { OnErr result (self.new ≡ with_failure self.old) }
@@ -260,11 +251,7 @@ impl Device for MemDevice {
 
     fn write(&mut self, at: u64, bytes: &[u8]) -> Result<(), Failed>
         requires { at + length bytes.now ≤ self.old.pages * 4096 }
-        ensures told { Tells (Write at bytes.now) (Some (story_of self.old)) (Some (story_of self.new)) result }
-        ensures time { length self.new.past ≡ next_count (length self.old.past) }
-        ensures ticks { OnOk result (length self.new.past ≡ length self.old.past + 1) }
-        ensures same_pages { self.new.pages ≡ self.old.pages }
-        ensures cause { HasCause self.old.faults self.new.faults result }
+        ensures made { MadeCall (Write at bytes.now) (seen_of self.old) (seen_of self.new) result }
         ensures exact { IsErr result ↔
             (Refuses self.old ⊎ (self.old.room_bytes < bytes_noted self.old.past + length bytes.now)) }
         ensures state { OnOk result (self.new ≡ record self.old { past = Write at bytes.now ∷ self.old.past }) }
@@ -293,11 +280,7 @@ impl Device for MemDevice {
     }
 
     fn sync(&mut self) -> Result<(), Failed>
-        ensures told { Tells Sync (Some (story_of self.old)) (Some (story_of self.new)) result }
-        ensures time { length self.new.past ≡ next_count (length self.old.past) }
-        ensures ticks { OnOk result (length self.new.past ≡ length self.old.past + 1) }
-        ensures same_pages { self.new.pages ≡ self.old.pages }
-        ensures cause { HasCause self.old.faults self.new.faults result }
+        ensures made { MadeCall Sync (seen_of self.old) (seen_of self.new) result }
         ensures exact { IsErr result ↔ Refuses self.old }
         ensures state { OnOk result (self.new ≡ record self.old { past = Sync ∷ self.old.past }) }
         ensures failed { OnErr result (self.new ≡ with_failure self.old) }

@@ -2,7 +2,8 @@
 ghost use Rattle.std.specs.Prelude.{◌≡◌, ◌+◌, ◌<◌, ◌-◌, ◌^◌, ◌↔◌, ◌≤◌, ◌++◌, [], ◌∷◌, length, reverse, IsTrue, IfOk, vec_len, vec_capacity, ℕ, slice_index, map};
 ghost use Rattle.std.specs.List.{sum_by};
 ghost use Rattle.dev_model.specs.Story.{FailedCall, bytes_after};
-ghost use Rattle.mem_device.specs.Memory.{place, bytes_noted, poked_call};
+ghost use Rattle.mem_device.specs.Memory.{bytes_noted, poked_call};
+ghost use Rattle.dev_model.specs.Story.{place};
 ghost use Rattle.mem_device.specs.Inside.{call_of, calls_of, size_of, IsOnDevice, AreOnDevice};
 ghost use Rattle.mem_device.specs.TornImages.{image_with, image_during, image_at};
 

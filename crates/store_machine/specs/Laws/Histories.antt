@@ -23,7 +23,7 @@ use Rattle.store_machine.specs.Machine.{Machine, does, after_logged, after_event
 use Rattle.store_machine.specs.Needs.{Needs, NeedsWrite, RefusesStep, place_in}
 use Rattle.store_machine.specs.Runs.{IsRun}
 use Rattle.store_machine.specs.Commands.{is_upkeep, own, word_of, refusal_of, words_of, words, IsRefusedFlush, wrote_reply, write_outcome, get_outcome, region_outcome, IsCall, Does, DoesAll, stopped_group}
-use Rattle.store_machine.specs.Laws.Steps.{after_all-append}
+use Rattle.store_machine.specs.Laws.Steps.{after_all-append, does-leaves}
 use Rattle.store_machine.specs.declared.events.Wrote.{Wrote}
 use Rattle.store_machine.specs.declared.events.Refusal.{Refusal}
 use Rattle.store_machine.specs.declared.events.Refusal.TheVariants.{Fault, Stopped, Full, Again, NoIndex, Damaged, OutOfMemory}
@@ -476,29 +476,7 @@ history-is known m (c ∷ cs) [] es room run does_it = absurd does_it
 
 -- the group that was not finished is that of the events
 kept-open : (a : Action) (m : Machine) → (does a m).unfinished ≡ m.unfinished
-kept-open (action.Write (Put row) (Ok w)) m = refl
-kept-open (action.Write (Del key) (Ok w)) m = by_old w.old
-  where
-    by_old : (old : Option (Point × List ℕ)) → (if is_some old then after_logged (Del key) (is_some old) w.ack m else m).unfinished ≡ m.unfinished
-    by_old None = refl
-    by_old (Some place) = refl
-kept-open (action.Write op (Err refusal)) m = refl
-kept-open (action.Get key (Ok given)) m = refl
-kept-open (action.Get key (Err refusal)) m = refl
-kept-open (action.Count seq n) m = refl
-kept-open (action.Look look) m = refl
-kept-open (action.Region kind rect (Ok found)) m = refl
-kept-open (action.Region kind rect (Err refusal)) m = refl
-kept-open (action.Freeze least (Ok true)) m = refl
-kept-open (action.Freeze least (Ok false)) m = refl
-kept-open (action.Freeze least (Err refusal)) m = refl
-kept-open (action.Begin (Ok None)) m = refl
-kept-open (action.Begin (Ok (Some own))) m = refl
-kept-open (action.Begin (Err refusal)) m = refl
-kept-open (action.JobWrite own (Ok done)) m = refl
-kept-open (action.JobWrite own (Err refusal)) m = refl
-kept-open (action.Install own (Ok done)) m = refl
-kept-open (action.Install own (Err refusal)) m = refl
+kept-open a m = ap (λ (u : Option ℕ × Option Group × ℕ). u.1) (does-leaves a m)
 
 pub unfinished-is : (m : Machine) (es : List Event) → (after_all m es).unfinished ≡ stopped_group m.unfinished es
 unfinished-is m [] = refl

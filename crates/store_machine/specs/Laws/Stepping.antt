@@ -1,44 +1,21 @@
 -- What an event says of a store that stands for events before it: its numbers and lists after it, whatever its device tells. No public
 -- contract needs these laws.
-use Rattle.std.proofs.Common.{◌≡◌, ℕ, Bool, true, false, List, [], ◌∷◌, ◌++◌, Option, Some, None, Ok, Err, is_some, refl, sym, ◌∙◌, ap, subst, if◌then◌else◌}
-use Rattle.geo_base.specs.declared.points.Point.{Point}
-use Rattle.wal_log.specs.declared.records.LogOp.TheVariants.{Put, Del}
-use Rattle.store_machine.specs.Machine.{Machine, Opening, does, after_logged, at_opening, after_event, after_all}
+use Rattle.std.proofs.Common.{◌≡◌, ℕ, Bool, false, List, [], ◌∷◌, ◌++◌, Option, Some, sym, ◌∙◌, ap, subst, if◌then◌else◌}
+use Rattle.store_machine.specs.Machine.{Machine, Opening, does, at_opening, after_event, after_all}
 use Rattle.store_machine.specs.Needs.{Needs}
 use Rattle.store_machine.specs.Runs.{IsRun, Stops}
 use Rattle.store_machine.specs.Calls.{IsStanding, Adds, Makes}
 use Rattle.store_machine.specs.Standing.{StoreState, Has, Stands}
+use Rattle.store_machine.specs.Outcomes.{Group}
 use Rattle.store_machine.specs.Laws.Histories.{IsRun-second}
-use Rattle.store_machine.specs.Laws.Steps.{after_all-append}
+use Rattle.store_machine.specs.Laws.Steps.{after_all-append, does-leaves}
 use Rattle.store_machine.specs.declared.events.Action.{Action}
 use Rattle.store_machine.specs.declared.events.Action.TheVariants as action
 use Rattle.store_machine.specs.declared.events.Event.{Event}
 
 -- no event stops a machine by what it does
 pub going-on : (a : Action) (m : Machine) → (does a m).stopped ≡ m.stopped
-going-on (action.Write (Put row) (Ok w)) m = refl
-going-on (action.Write (Del key) (Ok w)) m = by_old w.old
-  where
-    by_old : (old : Option (Point × List ℕ)) → (if is_some old then after_logged (Del key) (is_some old) w.ack m else m).stopped ≡ m.stopped
-    by_old None = refl
-    by_old (Some place) = refl
-going-on (action.Write op (Err refusal)) m = refl
-going-on (action.Get key (Ok given)) m = refl
-going-on (action.Get key (Err refusal)) m = refl
-going-on (action.Count seq n) m = refl
-going-on (action.Look look) m = refl
-going-on (action.Region kind rect (Ok found)) m = refl
-going-on (action.Region kind rect (Err refusal)) m = refl
-going-on (action.Freeze least (Ok true)) m = refl
-going-on (action.Freeze least (Ok false)) m = refl
-going-on (action.Freeze least (Err refusal)) m = refl
-going-on (action.Begin (Ok None)) m = refl
-going-on (action.Begin (Ok (Some own))) m = refl
-going-on (action.Begin (Err refusal)) m = refl
-going-on (action.JobWrite own (Ok done)) m = refl
-going-on (action.JobWrite own (Err refusal)) m = refl
-going-on (action.Install own (Ok done)) m = refl
-going-on (action.Install own (Err refusal)) m = refl
+going-on a m = ap (λ (u : Option ℕ × Option Group × ℕ). u.0) (does-leaves a m)
 
 -- an event where the store stands
 pub record Steps (old new : StoreState) (a : Action) : Type 0 where

@@ -1,5 +1,6 @@
 -- One event after another. No public contract needs these laws.
-use Rattle.std.proofs.Common.{◌≡◌, ℕ, ◌+◌, Bool, true, false, List, [], ◌∷◌, ◌++◌, length, refl, sym, ◌∙◌, ap, subst, arith, append_assoc, append-nil, Option, Some, None, if◌then◌else◌}
+use Rattle.std.proofs.Common.{◌≡◌, ℕ, ◌+◌, Bool, true, false, List, [], ◌∷◌, ◌++◌, length, refl, sym, ◌∙◌, ap, subst, arith, append_assoc, append-nil, Option, Some, None, Ok, Err, is_some, if◌then◌else◌}
+use Rattle.geo_base.specs.declared.points.Point.{Point}
 use Rattle.dev_model.specs.Story.{Story, Calls, WhereTold, after, clock_of}
 use Rattle.dev_model.specs.Moments.{EachMoment}
 use Rattle.dev_model.specs.DeviceCalls.{ok_calls}
@@ -13,15 +14,47 @@ use Rattle.store_machine.specs.Damage.{damaged_page}
 use Rattle.store_machine.specs.Laws.Counting.{AreUpTo-later}
 use Rattle.store_machine.specs.Laws.Damages.{HasGoneOn, IsCause, damages-add, cause-was}
 use Rattle.store_machine.specs.Outcomes.{Group}
-use Rattle.store_machine.specs.Machine.{Machine, Opening, does, group_of, at_opening, after_event, after_all}
+use Rattle.store_machine.specs.Machine.{Machine, Opening, does, after_logged, group_of, at_opening, after_event, after_all}
 use Rattle.store_state.specs.Keeping.{IsKept}
 use Rattle.store_state.specs.Reading.{IsLegible}
 use Rattle.store_machine.specs.Runs.{IsRun, Allows}
 use Rattle.store_machine.specs.Calls.{Adds, IsEventOf, Makes}
 use Rattle.store_machine.specs.Standing.{StoreState, Begins, Has, Tells, Stands, StandsSince}
 use Rattle.dev_model.specs.Story.{DeviceState}
+use Rattle.wal_log.specs.declared.records.LogOp.TheVariants.{Put, Del}
 use Rattle.store_machine.specs.declared.events.Action.{Action}
+use Rattle.store_machine.specs.declared.events.Action.TheVariants as action
 use Rattle.store_machine.specs.declared.events.Event.{Event}
+
+-- What no event changes by what it does: that the machine is running, the group that was not finished, and how many pages its lists
+-- are for.
+abbrev pub unmoved : Machine → Option ℕ × Option Group × ℕ
+unmoved m = (m.stopped, m.unfinished, m.lists.space.pages)
+
+pub does-leaves : (a : Action) (m : Machine) → unmoved (does a m) ≡ unmoved m
+does-leaves (action.Write (Put row) (Ok w)) m = refl
+does-leaves (action.Write (Del key) (Ok w)) m = by_old w.old
+  where
+    by_old : (old : Option (Point × List ℕ)) → unmoved (if is_some old then after_logged (Del key) (is_some old) w.ack m else m) ≡ unmoved m
+    by_old None = refl
+    by_old (Some place) = refl
+does-leaves (action.Write op (Err refusal)) m = refl
+does-leaves (action.Get key (Ok given)) m = refl
+does-leaves (action.Get key (Err refusal)) m = refl
+does-leaves (action.Count seq n) m = refl
+does-leaves (action.Look look) m = refl
+does-leaves (action.Region kind rect (Ok found)) m = refl
+does-leaves (action.Region kind rect (Err refusal)) m = refl
+does-leaves (action.Freeze least (Ok true)) m = refl
+does-leaves (action.Freeze least (Ok false)) m = refl
+does-leaves (action.Freeze least (Err refusal)) m = refl
+does-leaves (action.Begin (Ok None)) m = refl
+does-leaves (action.Begin (Ok (Some own))) m = refl
+does-leaves (action.Begin (Err refusal)) m = refl
+does-leaves (action.JobWrite own (Ok done)) m = refl
+does-leaves (action.JobWrite own (Err refusal)) m = refl
+does-leaves (action.Install own (Ok done)) m = refl
+does-leaves (action.Install own (Err refusal)) m = refl
 
 pub after_all-append : (m : Machine) (es fs : List Event) → after_all m (es ++ fs) ≡ after_all (after_all m es) fs
 after_all-append m [] fs = refl

@@ -1,4 +1,4 @@
-use Rattle.std.proofs.Common.{◌≡◌, length, take, drop, map}
+use Rattle.std.proofs.Common.{◌≡◌, take, drop, map}
 use Rattle.std.specs.List.{sum_by}
 use Rattle.mem_device.specs.Memory.{poked_call}
 use Rattle.mem_device.specs.Inside.{calls_of, size_of}

@@ -1,9 +1,9 @@
-use Rattle.std.proofs.Common.{◌≡◌, ℕ, ◌+◌, ◌-◌, ◌<◌, ◌≤◌, ◌∷◌, [], List, length, take, drop, reverse, slice_index_or, sym, ◌∙◌, ap, subst, arith}
+use Rattle.std.proofs.Common.{◌≡◌, ℕ, ◌+◌, ◌-◌, ◌<◌, ◌≤◌, ◌∷◌, [], length, take, drop, reverse, slice_index_or, sym, ◌∙◌, ap, subst, arith}
 use Rattle.std.specs.List.{sum_by}
 use Rattle.std.proofs.lemmas.List.{take_all, length-reverse}
 use Rattle.dev_model.specs.Story.{Bytes, Past, bytes_after}
-use Rattle.mem_device.specs.Memory.{place}
-use Rattle.mem_device.specs.Inside.{call_of, calls_of, size_of, IsOnDevice, AreOnDevice}
+use Rattle.dev_model.specs.Story.{place}
+use Rattle.mem_device.specs.Inside.{call_of, calls_of, size_of, AreOnDevice}
 use Rattle.mem_device.specs.TornImages.{image_with, image_during, image_after, image_at}
 use Rattle.mem_device.specs.declared.record.Kept.TheVariants as stored
 use Rattle.mem_device.proofs.Allowed.{bytes_after-call}

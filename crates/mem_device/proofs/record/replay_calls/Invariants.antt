@@ -1,7 +1,7 @@
 use Rattle.std.proofs.Common.{◌≡◌, ℕ, take, reverse, slice_index}
 use Rattle.std.specs.List.{sum_by}
 use Rattle.dev_model.specs.Story.{bytes_after}
-use Rattle.mem_device.specs.Memory.{place}
+use Rattle.dev_model.specs.Story.{place}
 use Rattle.mem_device.specs.Inside.{calls_of, size_of}
 use Rattle.mem_device.specs.TornImages.{image_after}
 use Rattle.mem_device.proofs.record.replay_calls.Given as goal

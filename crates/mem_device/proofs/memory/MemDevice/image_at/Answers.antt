@@ -1,7 +1,8 @@
 use Rattle.std.proofs.Common.{◌≡◌, ℕ, List, length, slice_index, rules, sym, ◌∙◌, ap, subst}
 use Rattle.std.proofs.lemmas.List.{with_items_is}
 use Rattle.dev_model.specs.Story.{IsImage}
-use Rattle.mem_device.specs.Memory.{MemoryState, place, story_of}
+use Rattle.mem_device.specs.Memory.{MemoryState, story_of}
+use Rattle.dev_model.specs.Story.{place}
 use Rattle.mem_device.specs.TornImages.{image_at}
 use Rattle.mem_device.proofs.Allowed.{image_at-IsImage}
 use Rattle.mem_device.proofs.memory.MemDevice.image_at.Goals as goal
@@ -17,4 +18,4 @@ returns-clause-allowed c =
     let image = λ (i : ℕ). ap (λ (l : List ℕ). slice_index l i) whole ∙ c.replay.ensures i
     ∙ ap (λ (l : List ℕ). image_at c.args.torn (place l) f.kept.past c.args.moment i) buffer
     ∙ ap (λ (d : MemoryState). image_at c.args.torn (place d.start) d.past c.args.moment i) c.self.view_is in
-    subst (IsImage (story_of now) c.args.moment) (λ j i. sym (image i) j) (image_at-IsImage c.args.torn (place now.start) now.past c.args.moment)
+    subst (IsImage (story_of now) c.args.moment) (λ j i. sym (image i) j) (image_at-IsImage c.args.torn now.start now.past c.args.moment)

@@ -1,4 +1,4 @@
-use Rattle.std.proofs.Common.{◌≡◌, ◌*◌, ◌<◌, slice_set, sym, ap, subst, arith}
+use Rattle.std.proofs.Common.{◌*◌, ◌<◌, slice_set, sym, ap, subst, arith}
 use Rattle.mem_device.specs.Memory.{MemoryState}
 use Rattle.mem_device.specs.Inside.{Noted, IsSoundMemory}
 use Rattle.mem_device.proofs.Poking.{memory-poked}

@@ -1,6 +1,5 @@
-use Rattle.std.proofs.Common.{◌≡◌, map, length, reverse, ◌∙◌, ap, sym}
+use Rattle.std.proofs.Common.{◌≡◌, map, reverse, ◌∙◌, ap, sym}
 use Rattle.std.proofs.lemmas.List.{with_items_is}
-use Rattle.dev_model.specs.Story.{Past}
 use Rattle.mem_device.specs.Memory.{poked_call}
 use Rattle.mem_device.specs.Inside.{Noted, calls_of, with_missed}
 use Rattle.mem_device.proofs.Poking.{with_missed-poked, reverse-poked}

@@ -1,7 +1,7 @@
-use Rattle.std.proofs.Common.{◌≡◌, ℕ, min, length, reverse, sym, ◌∙◌, ap, subst, arith}
+use Rattle.std.proofs.Common.{◌≡◌, min, length, reverse, sym, ◌∙◌, ap, subst, arith}
 use Rattle.std.proofs.lemmas.List.{length-reverse}
 use Rattle.dev_model.specs.Story.{Bytes, Calls}
-use Rattle.mem_device.specs.Memory.{place}
+use Rattle.dev_model.specs.Story.{place}
 use Rattle.mem_device.specs.Inside.{Noted, calls_of, AreOnDevice}
 use Rattle.mem_device.specs.TornImages.{image_at}
 use Rattle.mem_device.proofs.Images.{image_at-min, image_at-with_missed}
