@@ -2,7 +2,7 @@
 use Rattle.std.proofs.Common.{◌≡◌, ◌≢◌, ◌⊎◌, inl, inr, ⊎_elim, ℕ, zero, suc, ◌+◌, ◌-◌, ◌*◌, ◌<◌, ◌≤◌, List, [], ◌∷◌, ◌++◌, length, reverse, get_or, set, map, Bool, true, false, cond, IsTrue, ◌&&◌, nat_le, nat_lt, refl, sym, ◌∙◌, ap, subst, arith}
 use Rattle.std.proofs.lemmas.List.{map-append, reverse-append, length-set, get_or-set_same, get_or-set_other}
 use Rattle.std.proofs.lemmas.Bool.Decides.{nat_tests}
-use Rattle.dev_model.specs.Story.{Bytes, Call, Read, Write, Sync, FailedWrite, FailedCall, Past, patched, bytes_after, IsInside, IsOutside}
+use Rattle.dev_model.specs.Story.{Bytes, Read, Write, Sync, FailedWrite, FailedCall, Past, patched, bytes_after, IsInside, IsOutside}
 use Rattle.mem_device.specs.Memory.{poked_list, poked_call}
 use Rattle.dev_model.specs.Story.{place}
 use Rattle.mem_device.specs.Inside.{AreOnDevice, with_missed, IsSoundMemory}

@@ -4,7 +4,7 @@ use Rattle.std.specs.Prelude.{◌≡◌, ◌⊎◌, ℕ, zero, suc, ◌+◌, ◌
 use Rattle.std.specs.List.{sum_by}
 use Rattle.std.proofs.Common.{ap, refl}
 use Rattle.std.proofs.lemmas.Option.{same_Some}
-use Rattle.dev_model.specs.Story.{Bytes, Call, Calls, Read, Write, Sync, FailedWrite, FailedCall, Past, Story, bytes_after, clock_of}
+use Rattle.dev_model.specs.Story.{Call, Calls, Read, Write, Sync, FailedWrite, FailedCall, Past, Story, bytes_after, clock_of}
 use Rattle.mem_device.specs.Memory.{MemoryState, story_of, zeros}
 use Rattle.dev_model.specs.Story.{place}
 use Rattle.mem_device.specs.declared.record.Kept.{Kept}

@@ -1,8 +1,8 @@
 -- A device in memory: what contracts see of it, and which of its calls fail.
-use Rattle.std.specs.Prelude.{◌⊎◌, ℕ, ◌+◌, ◌-◌, ◌^◌, ◌<◌, ◌≤◌, List, [], ◌∷◌, length, slice_index, slice_set, replicate, map, Contains, Some, ◌&&◌, nat_le, nat_lt, if◌then◌else◌}
+use Rattle.std.specs.Prelude.{◌⊎◌, ℕ, ◌+◌, ◌-◌, ◌^◌, ◌<◌, ◌≤◌, List, ◌∷◌, length, slice_set, replicate, map, Contains, Some, ◌&&◌, nat_le, nat_lt, if◌then◌else◌}
 use Rattle.std.specs.List.{sum_by}
 use Rattle.dev_model.specs.Counts.{next_count}
-use Rattle.dev_model.specs.Story.{Bytes, Call, Write, FailedWrite, FailedCall, Past, DeviceState, Story}
+use Rattle.dev_model.specs.Story.{Call, Write, FailedWrite, FailedCall, Past, DeviceState, Story}
 
 -- The bytes at clock 0 and each call since; the room for calls and for the bytes of writes; the clock numbers of the calls
 -- that fail.

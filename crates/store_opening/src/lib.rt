@@ -1,9 +1,9 @@
 //! The opening of a store: what an image on a device says of it, and the lists that it begins with.
 #![tactic(auto)]
 
+mod formatted;
 mod opening;
 mod replay;
 mod slots;
-mod superblock;
 
 pub use opening::{OpenFault, OpenedState, open_state};

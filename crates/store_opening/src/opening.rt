@@ -15,7 +15,7 @@ ghost use Rattle.store_opening.specs.Read.{HasRead, AreLawfulSlots, log_fault};
 
 use crate::replay::state_of;
 use crate::slots::{OpenSlots, read_slots};
-use crate::superblock::read_indexes;
+use crate::formatted::read_indexes;
 use comp_dir::Slot;
 use dev_model::Device;
 use format_numbers::{FIRST_DATA_PAGE, LOG_START};

@@ -10,7 +10,6 @@ use Rattle.store_machine.specs.Outcomes.{Group}
 use Rattle.store_machine.specs.Laws.Histories.{IsRun-second}
 use Rattle.store_machine.specs.Laws.Steps.{after_all-append, does-leaves}
 use Rattle.store_machine.specs.declared.events.Action.{Action}
-use Rattle.store_machine.specs.declared.events.Action.TheVariants as action
 use Rattle.store_machine.specs.declared.events.Event.{Event}
 
 -- no event stops a machine by what it does

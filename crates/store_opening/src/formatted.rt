@@ -1,4 +1,4 @@
-// The first page of a device.
+// Whether a device is formatted, and with which indexes.
 ghost use Rattle.std.specs.Prelude.{◌≡◌, ◌≤◌, IfOk, IfErr};
 ghost use Rattle.dev_model.specs.Story.{WhereTold, bytes_of, IsCalmAt};
 ghost use Rattle.dev_model.specs.Moments.{ReadsWithin};
