@@ -1,5 +1,5 @@
 -- How the parts of a task make its ending.
-use Rattle.std.specs.Prelude.{◌≡◌, ◌⊎◌, ℕ, ◌^◌, ◌<◌, List, [], length, Option, Some, None, Ok, Err}
+use Rattle.std.specs.Prelude.{◌≡◌, ℕ, ◌^◌, ◌<◌, List, [], length, Option, Some, None, Ok, Err}
 use Rattle.std.proofs.Common.{arith, inl, inr, refl, sym, ◌∙◌, ap, subst}
 use Rattle.std.proofs.lemmas.List.{length-map}
 use Rattle.script_lang.specs.CommandViews.{command_of, commands_of}
@@ -9,7 +9,7 @@ use Rattle.spatial_run.specs.Views.{outcomes_of}
 use Rattle.table_model.specs.Commands.{Command}
 use Rattle.table_model.specs.Phases.{Phases}
 use Rattle.table_model.specs.Record.{RunRecord, Rises}
-use Rattle.store_machine.specs.Standing.{StoreState, StandsSince}
+use Rattle.store_machine.specs.Standing.{StoreState}
 use Rattle.dev_model.specs.Story.{DeviceState}
 use Rattle.store_machine.specs.Calls.{IsReady}
 use Rattle.spatial_run.specs.Tasks.{Task, format, serial, fresh}

@@ -1,7 +1,6 @@
 -- What a format leaves of a table: the empty one afterwards, and before that the one that was there, or none.
 use Rattle.std.proofs.Common.{◌≡◌, inl, inr, ℕ, List, [], Option, Ok, Err, Result, OnOk, refl, subst}
 use Rattle.std.specs.FinMap.{empty}
-use Rattle.dev_model.specs.Counts.{HasCause}
 use Rattle.dev_model.specs.Story.{Bytes, Story, bytes_of, WhereTold, IsSettled}
 use Rattle.dev_model.specs.declared.streams.Failed.{Failed}
 use Rattle.dev_model.specs.Moments.{LeavesOnly}
@@ -36,20 +35,20 @@ table-or-none pages indexes old new any table s told holds =
     kept image (inr none) = inr none
 
 -- a format, by what is said of its call
-pub formatting-of : (indexes : ℕ) (old new : DeviceState) (result : Result (Unit {0}) Failed) → Formats indexes old.pages old.story new.story old.clock new.clock result
+pub formatting-of : (indexes : ℕ) (old new : DeviceState) (result : Result (Unit {0}) Failed) → Formats indexes old new result
     → OnOk result (WhereTold new.story (IsFreshStore old.pages indexes))
     → WhereTold old.story (λ s. IsSettled s.past 0 → LeavesOnly s new.story (IsBeforeOrAfter old.pages indexes s))
     → WhereTold old.story (λ s. HasNoStore s → LeavesOnly s new.story (IsNoneOrEmpty old.pages indexes))
-    → new.pages ≡ old.pages → HasCause old.faults new.faults result → FormattingBy indexes old new result
-formatting-of indexes old new result formats formatted any over same_pages cause = record {
+    → FormattingBy indexes old new result
+formatting-of indexes old new result formats formatted any over = record {
   formatting = record {
     formatted = formatted;
     empty_table = emptied result formatted;
     any_moment = any;
     any_table = table-or-none old.pages indexes old.story new.story any;
     over_none = over;
-    same_pages = same_pages;
-    cause = cause;
+    same_pages = formats.made.same_pages;
+    cause = formats.made.cause;
   };
   formats = formats;
 }

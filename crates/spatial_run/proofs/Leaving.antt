@@ -5,7 +5,7 @@ use Rattle.dev_model.specs.Story.{Bytes, Story, after, bytes_of, IsImageNow, Whe
 use Rattle.dev_model.specs.Moments.{LeavesOnly}
 use Rattle.dev_model.specs.Laws.Reads.{LeavesOnly-reads}
 use Rattle.dev_model.specs.Laws.Runs.{LeavesOnly-start, LeavesOnly-weaker}
-use Rattle.component_image.specs.Recovered.{IsOpeningRange}
+use Rattle.component_image.specs.Recovered.{IsOpeningRange, Recovers}
 use Rattle.table_model.specs.Table.{Table}
 use Rattle.table_model.specs.Commands.{Command}
 use Rattle.table_model.specs.Phases.{Phases}
@@ -19,17 +19,17 @@ use Rattle.spatial_run.specs.declared.outcomes.Refusals.{Refusals}
 use Rattle.spatial_run.specs.Tasks.{Task, format, serial, fresh}
 use Rattle.spatial_run.specs.Endings.{Ending, bad_words, source_fault, bad_script, no_memory, format_failed, formatted, not_opened, ran, IsCause, IsToFormat, Prepared, Ends, Edges}
 use Rattle.spatial_run.specs.OnDevice.{LeavesOver, Formatting, OnlyOpened, RanOn}
-use Rattle.spatial_run.specs.Reopening.{begun_with, HoldsFirst, HoldsOrEmpty, logged_in, MayBeUnfinished, LeavesWritten, LeavesFormatted, LeavesPrepared, Leaves}
-use Rattle.spatial_run.proofs.Reopened.{holds-again, served-again, formatted-again}
+use Rattle.spatial_run.specs.Reopening.{HoldsFirst, HoldsOrEmpty, logged_in, MayBeUnfinished, LeavesWritten, LeavesFormatted, LeavesPrepared, Leaves}
+use Rattle.spatial_run.proofs.Reopened.{served-again, formatted-again}
 
--- each image of the present moment holds what the device holds
-holds-image : (pages : ℕ) (table : Table) (s : Story) → HoldsTable pages table s → (image : Bytes) → IsImageNow s image → HoldsTable pages table (begun_with image)
-holds-image pages table s holds image now =
-    holds-again pages table image (recovers-same pages table (bytes_of s) image (λ i at. now i (holds.looked_calm i at)) (λ i at. now i (holds.content_calm i at)) holds.recovers)
+-- each image of the present moment recovers to what the device holds
+image-recovers : (pages : ℕ) (table : Table) (s : Story) → HoldsTable pages table s → (image : Bytes) → IsImageNow s image → Recovers pages table image
+image-recovers pages table s holds image now =
+    recovers-same pages table (bytes_of s) image (λ i at. now i (holds.looked_calm i at)) (λ i at. now i (holds.content_calm i at)) holds.recovers
 
 -- an ending with no run, of which each crash leaves the table
 still : (ending : Ending) (pages : ℕ) (table : Table) (s : Story) (now : Option Story) (acks : List ℕ) → logged_in ending ≡ [] → MayBeUnfinished ending None → acks ≡ []
-    → LeavesOnly s now (λ image. HoldsTable pages table (begun_with image)) → LeavesWritten ending pages table s now acks
+    → LeavesOnly s now (λ image. Recovers pages table image) → LeavesWritten ending pages table s now acks
 still ending pages table s now acks none may no_acks leaves = record {
   unfinished = None;
   may = may;
@@ -44,14 +44,14 @@ untouched : (ending : Ending) (old new : DeviceState) (table : Table) (s : Story
     → new ≡ old → old.story ≡ Some s → HoldsTable old.pages table s → LeavesWritten ending old.pages table s new.story acks
 untouched ending old new table s acks none may no_acks same told holds =
     still ending old.pages table s new.story acks none may no_acks
-    (LeavesOnly-start s new.story (λ image. HoldsTable old.pages table (begun_with image)) (ap (λ (d : DeviceState). d.story) same ∙ told) (holds-image old.pages table s holds))
+    (LeavesOnly-start s new.story (λ image. Recovers old.pages table image) (ap (λ (d : DeviceState). d.story) same ∙ told) (image-recovers old.pages table s holds))
 
 -- only the reads of an opening were done on it
 only-read : (ending : Ending) (pages : ℕ) (device new : DeviceState) (table : Table) (s : Story) (acks : List ℕ) → logged_in ending ≡ [] → MayBeUnfinished ending None → acks ≡ []
     → OnlyOpened device new → device.story ≡ Some s → HoldsTable pages table s → LeavesWritten ending pages table s new.story acks
 only-read ending pages device new table s acks none may no_acks opened told holds =
     still ending pages table s new.story acks none may no_acks
-    (LeavesOnly-weaker s new.story (IsImageNow s) (λ image. HoldsTable pages table (begun_with image)) (holds-image pages table s holds) (LeavesOnly-reads IsOpeningRange s new.story (opened s told)))
+    (LeavesOnly-weaker s new.story (IsImageNow s) (λ image. Recovers pages table image) (image-recovers pages table s holds) (LeavesOnly-reads IsOpeningRange s new.story (opened s told)))
 
 -- a script ran on it
 after-run : (pages : ℕ) (device new : DeviceState) (table : Table) (t : Story) (acks : List ℕ) (s : Phases Command) (r : RunRecord) (f : Refusals) → device.pages ≡ pages

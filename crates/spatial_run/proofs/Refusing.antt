@@ -1,13 +1,11 @@
 -- For which causes steps were refused, one command more.
 use Rattle.std.specs.Prelude.{◌≡◌, ℕ, Bool, true, false, ◌||◌, List, [], ◌∷◌, ◌++◌, nat_eq}
-use Rattle.std.specs.List.{list_any}
 use Rattle.std.proofs.Common.{refl, sym, ◌∙◌, ap, append_assoc, append-nil}
 use Rattle.table_model.specs.Commands.{Outcome}
 use Rattle.table_model.specs.declared.Why.{Why}
 use Rattle.table_model.specs.Record.{refused_word, refused_words}
 use Rattle.spatial_run.specs.Refused.{status_of_why, has_status, refusals_by}
 use Rattle.spatial_run.specs.Steps.{with_command, with_upkeep}
-use Rattle.spatial_run.specs.declared.outcomes.Refusals.{Refusals}
 
 or_assoc : (a b c : Bool) → ((a || b) || c) ≡ (a || (b || c))
 or_assoc true b c = refl

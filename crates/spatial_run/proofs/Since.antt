@@ -1,8 +1,8 @@
 -- What a run leaves since the call began: the pages of the device, what each crash leaves, and the table where nothing stopped it.
-use Rattle.std.proofs.Common.{◌≡◌, inl, inr, ⊎_elim, ℕ, ◌<◌, ◌≤◌, Bool, true, false, if◌then◌else◌, List, [], ◌∷◌, ◌++◌, take, Option, Some, None, is_some, Ok, Err, refl, sym, ◌∙◌, ap, subst, arith}
+use Rattle.std.proofs.Common.{◌≡◌, inl, ⊎_elim, ℕ, ◌<◌, ◌≤◌, Bool, true, false, if◌then◌else◌, List, [], ◌∷◌, ◌++◌, take, Option, Some, None, is_some, Ok, Err, refl, sym, ◌∙◌, subst, arith}
 use Rattle.std.proofs.lemmas.Bool.Decides.{nat_tests}
 use Rattle.std.proofs.lemmas.Option.{same_Some}
-use Rattle.dev_model.specs.Story.{Bytes, Calls, Story, after, bytes_of, clock_of, IsImage, IsImageNow}
+use Rattle.dev_model.specs.Story.{Calls, Story, after, bytes_of, clock_of, IsImageNow}
 use Rattle.dev_model.specs.Moments.{EachMoment, LeavesOnly, ReadsWithin}
 use Rattle.dev_model.specs.Laws.Images.{IsImage-older}
 use Rattle.dev_model.specs.Laws.Reads.{LeavesOnly-reads}

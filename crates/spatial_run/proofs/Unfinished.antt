@@ -1,12 +1,11 @@
 -- The group that was being logged when the device failed is that of a write that was refused with `fault`.
-use Rattle.std.proofs.Common.{◌≡◌, ◌⊎◌, inl, inr, ⊎_elim, ℕ, Bool, true, false, if◌then◌else◌, List, [], ◌∷◌, ◌++◌, Option, Some, None, IfSome, Result, Ok, Err, refl, sym, ◌∙◌, ap, subst}
+use Rattle.std.proofs.Common.{◌≡◌, ◌⊎◌, inl, inr, ⊎_elim, Bool, true, false, if◌then◌else◌, List, [], ◌∷◌, ◌++◌, Option, Some, None, IfSome, Ok, Err, refl, sym, ◌∙◌, ap, subst}
 use Rattle.std.proofs.lemmas.Option.{same_Some}
 use Rattle.table_model.specs.Commands.{TableCommand, Command, on_table, flush, write, Outcome, answered, quiet, refused}
-use Rattle.table_model.specs.declared.Why.{Why}
 use Rattle.table_model.specs.declared.Why.TheVariants as why
 use Rattle.wal_log.specs.declared.records.LogOp.{LogOp}
 use Rattle.component_image.specs.Replayed.{write_of}
-use Rattle.store_machine.specs.Commands.{is_upkeep, own, word_of, IsSaid, write_outcome, IsCall, Does, DoesAll, stopped_group}
+use Rattle.store_machine.specs.Commands.{is_upkeep, own, write_outcome, IsCall, Does, DoesAll, stopped_group}
 use Rattle.store_machine.specs.Machine.{Machine, after_event, after_all, group_of}
 use Rattle.store_machine.specs.Outcomes.{Group}
 use Rattle.store_machine.specs.Runs.{Stops, IsRun}
@@ -14,9 +13,7 @@ use Rattle.store_machine.specs.Laws.Histories.{IsRun-first, IsRun-second}
 use Rattle.store_machine.specs.declared.events.Action.{Action}
 use Rattle.store_machine.specs.declared.events.Action.TheVariants as action
 use Rattle.store_machine.specs.declared.events.Event.{Event}
-use Rattle.store_machine.specs.declared.events.Refusal.{Refusal}
 use Rattle.store_machine.specs.declared.events.Refusal.TheVariants.{Fault, Stopped, Full, Again, NoIndex, Damaged, OutOfMemory}
-use Rattle.store_machine.specs.declared.events.Wrote.{Wrote}
 use Rattle.spatial_run.specs.OnDevice.{IsFailedWrite, HasFailedWrite}
 
 -- an event of the list logged the group when the device failed

@@ -16,7 +16,7 @@ use Rattle.spatial_run.specs.Refused.{record_words, refusals_by}
 -- a device was formatted, or that failed, by just these calls
 pub record FormattingBy (indexes : ℕ) (old new : DeviceState) (result : Result (Unit {0}) Failed) : Type 0 where
   pub formatting : Formatting indexes old new result
-  pub formats : Formats indexes old.pages old.story new.story old.clock new.clock result
+  pub formats : Formats indexes old new result
 
 -- There is a list of events of the store, all by one owner, which are the commands of the script one after another, with what became
 -- of them; they were made on the store since it was opened on the device. The run was refused for the causes of their words, and the

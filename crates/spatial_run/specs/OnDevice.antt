@@ -1,5 +1,5 @@
 -- What a call of the program does on its device.
-use Rattle.std.specs.Prelude.{◌≡◌, ◌⊎◌, ℕ, true, false, List, [], ◌∷◌, map, Contains, Option, Some, IfSome, Result, Ok, OnOk}
+use Rattle.std.specs.Prelude.{◌≡◌, ◌⊎◌, ℕ, true, false, List, [], ◌∷◌, map, Contains, Option, Some, IfSome, Result, OnOk}
 use Rattle.std.specs.FinMap.{empty}
 use Rattle.dev_model.specs.Counts.{Rose, HasCause}
 use Rattle.dev_model.specs.Story.{Bytes, Calls, Story, after, bytes_of, clock_of, WhereTold, IsCalmAt, IsSettled}

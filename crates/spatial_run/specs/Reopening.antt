@@ -1,4 +1,4 @@
--- What a crash leaves, as a device that begins with it. No public contract of the program needs this file.
+-- What a crash leaves, for a device that begins with it. No public contract of the program needs this file.
 use Rattle.std.specs.Prelude.{◌≡◌, ◌⊎◌, ℕ, ◌≤◌, List, [], take, Option, Some, None, IfSome}
 use Rattle.std.specs.FinMap.{empty}
 use Rattle.dev_model.specs.Story.{Bytes, Story}
@@ -6,23 +6,23 @@ use Rattle.dev_model.specs.Moments.{LeavesOnly}
 use Rattle.table_model.specs.Table.{Table}
 use Rattle.device_format.specs.Formatting.{IsUnformatted}
 use Rattle.store_machine.specs.Crash.{acked_by, attempted}
-use Rattle.store_machine.specs.Devices.{HoldsTable}
+use Rattle.component_image.specs.Recovered.{Recovers}
 use Rattle.store_machine.specs.Outcomes.{Group, after_groups, logged_groups}
 use Rattle.spatial_run.specs.Tasks.{Task, serial, fresh}
 use Rattle.spatial_run.specs.Endings.{Ending, bad_words, source_fault, bad_script, no_memory, format_failed, formatted, ran}
 use Rattle.spatial_run.specs.OnDevice.{LeavesOver, HasFailedWrite}
 
 -- a device that begins with these bytes
-abbrev pub begun_with : Bytes → Story
-begun_with image = record { start = image; past = [] }
+abbrev pub begun_with : List ℕ → Story
+begun_with bytes = record { start = bytes; past = [] }
 
--- A device that begins with the image holds the table after the first of these groups, with all that were acknowledged at the moment.
+-- The image recovers to the table after the first of these groups, with all that were acknowledged at the moment.
 abbrev pub HoldsFirst : (pages : ℕ) → Table → List Group → (acks : List ℕ) → (moment : ℕ) → Bytes → Type 0
-HoldsFirst pages table groups acks moment image = (count : ℕ) × (acked_by moment acks ≤ count) × HoldsTable pages (after_groups table (take count groups)) (begun_with image)
+HoldsFirst pages table groups acks moment image = (count : ℕ) × (acked_by moment acks ≤ count) × Recovers pages (after_groups table (take count groups)) image
 
--- A device that begins with the image holds the table or the empty one, or an opening finds no store there.
+-- The image recovers to the table or to the empty one, or an opening finds no store there.
 abbrev pub HoldsOrEmpty : (pages : ℕ) → Table → Bytes → Type 0
-HoldsOrEmpty pages table image = HoldsTable pages table (begun_with image) ⊎ (IsUnformatted image ⊎ HoldsTable pages empty (begun_with image))
+HoldsOrEmpty pages table image = Recovers pages table image ⊎ (IsUnformatted image ⊎ Recovers pages empty image)
 
 -- what an ending says was logged
 abbrev pub logged_in : Ending → List Group

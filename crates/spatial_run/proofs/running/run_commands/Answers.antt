@@ -2,7 +2,6 @@ use Rattle.std.proofs.Common.{◌≡◌, ◌∙◌, ap, List, [], subst, sym, ar
 use Rattle.std.specs.Option.{option_to_list}
 use Rattle.store_core.specs.Stores.{state_of}
 use Rattle.spatial_run.specs.Steps.{MadeAll, with_upkeep}
-use Rattle.spatial_run.specs.Refused.{refusals_by}
 use Rattle.spatial_run.specs.Views.{outcomes_of}
 use Rattle.spatial_run.specs.declared.outcomes.Refusals.{Refusals}
 use Rattle.spatial_run.specs.declared.record.Outcome.{Outcome}
