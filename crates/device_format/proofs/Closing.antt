@@ -1,11 +1,12 @@
 -- Gates that are closed one by one.
-use Rattle.std.proofs.Common.{◌≡◌, ℕ, zero, suc, ◌+◌, ◌-◌, ◌*◌, ◌<◌, ◌≤◌, ◌∷◌, ◌++◌, Result, Ok, Err, refl, ◌∙◌, ap, subst, arith}
+use Rattle.std.proofs.Common.{[], ◌≡◌, ℕ, zero, suc, ◌+◌, ◌-◌, ◌*◌, ◌<◌, ◌≤◌, ◌∷◌, ◌++◌, Result, Ok, Err, refl, ◌∙◌, ap, subst, arith}
 use Rattle.std.specs.Prelude.{IsErr}
 use Rattle.dev_model.specs.Answers.{MadeCall}
 use Rattle.dev_model.specs.Doing.{Made}
-use Rattle.dev_model.specs.Story.{Calls, DeviceState}
+use Rattle.dev_model.specs.Story.{Write, Calls, DeviceState}
 use Rattle.dev_model.specs.declared.streams.Failed.{Failed}
-use Rattle.device_format.specs.Planning.{close_gate, close_from}
+use Rattle.gate.specs.declared.gates.TheConstants.{CLOSED}
+use Rattle.device_format.specs.Planning.{close_from}
 use Rattle.device_format.proofs.Joining.{made_call, made_first, made_then}
 
 -- the first gates and those behind them
@@ -16,7 +17,7 @@ close_split gate m zero k count total at all =
     let rest : count ≡ total = omega (arith, all) in
     ap (λ (j : ℕ). close_from gate j count) here ∙ ap (close_from gate m) rest
 close_split gate m (suc n) k count zero at all = absurd (omega (arith, all))
-close_split gate m (suc n) k count (suc total) at all = ap (λ (calls : Calls). close_gate (gate m) ∷ calls) (close_split gate (m + 1) n k count total (omega (arith, at)) (omega (arith, all)))
+close_split gate m (suc n) k count (suc total) at all = ap (λ (calls : Calls). Write (gate m) (CLOSED ∷ []) ∷ calls) (close_split gate (m + 1) n k count total (omega (arith, at)) (omega (arith, all)))
 
 -- so many gates were closed
 abbrev pub HasClosed : (gate : ℕ → ℕ) (n : ℕ) (old now : DeviceState) → Type 0
@@ -27,12 +28,12 @@ unfolding close_from
 close_none gate now = record { did = refl; ticks = omega arith; same_pages = refl; cause = record { later = omega arith; failed = tt } }
 
 module _ (gate : ℕ → ℕ) (n : ℕ) (old mid new : DeviceState) (closed : HasClosed gate n old mid) where
-  pub close_more : MadeCall {X = Unit {0}} {E = Failed} (close_gate (gate n)) mid new (Ok tt) → HasClosed gate (n + 1) old new
+  pub close_more : MadeCall {X = Unit {0}} {E = Failed} (Write (gate n) (CLOSED ∷ [])) mid new (Ok tt) → HasClosed gate (n + 1) old new
   unfolding close_from
   close_more call =
       subst (λ (calls : Calls). Made {X = Unit {0}} {E = Failed} calls old new (Ok tt)) (close_split gate 0 n n 1 (n + 1) (omega arith) (omega arith)) (made_then closed (made_call call))
 
-  pub close_stopped : {failed : Failed} (count : ℕ) (result : Result (Unit {0}) Failed) → n < count → IsErr result → MadeCall {X = Unit {0}} (close_gate (gate n)) mid new (Err failed) → Made (close_from gate 0 count) old new result
+  pub close_stopped : {failed : Failed} (count : ℕ) (result : Result (Unit {0}) Failed) → n < count → IsErr result → MadeCall {X = Unit {0}} (Write (gate n) (CLOSED ∷ [])) mid new (Err failed) → Made (close_from gate 0 count) old new result
   unfolding close_from
   close_stopped count result lt is call =
       subst (λ (calls : Calls). Made calls old new result) (close_split gate 0 n n (suc (count - (n + 1))) count (omega arith) (omega (arith, lt)))

@@ -1,6 +1,6 @@
 -- Gates that were closed: 0 stands there, and is on the disk once they are synced.
 use Rattle.std.proofs.Common.{◌≡◌, ◌≢◌, ◌⊎◌, inl, inr, ⊎_elim, ℕ, zero, suc, ◌+◌, ◌-◌, ◌<◌, ◌≤◌, List, [], ◌∷◌, ◌++◌, get_or, Option, refl, sym, ◌∙◌, ap, subst, arith}
-use Rattle.dev_model.specs.Story.{Bytes, Calls, Story, Sync, after, with_call, bytes_of, patched, IsReadable, IsSettled, IsOutside}
+use Rattle.dev_model.specs.Story.{Write, Bytes, Calls, Story, Sync, after, with_call, bytes_of, patched, IsReadable, IsSettled, IsOutside}
 use Rattle.dev_model.specs.Writes.{AreSpared}
 use Rattle.dev_model.specs.Laws.Ranges.{patched-outside, patched-inside}
 use Rattle.dev_model.specs.Laws.Runs.{after-append}
@@ -10,7 +10,8 @@ use Rattle.comp_dir.specs.Places.{slot_start}
 use Rattle.comp_dir.specs.Directory.{directory_of, slots_from, open_from, open_slots, IsLooked}
 use Rattle.comp_dir.specs.Resting.{IsAtRest as DirectoryAtRest}
 use Rattle.comp_dir.specs.Laws.Agreeing.{slot_at-shut}
-use Rattle.device_format.specs.Planning.{close_gate, close_from, close_gates}
+use Rattle.gate.specs.declared.gates.TheConstants.{CLOSED}
+use Rattle.device_format.specs.Planning.{close_from, close_gates}
 
 pub record HasZero (i : ℕ) (s : Story) : Type 0 where
   pub byte : bytes_of s i ≡ 0
@@ -22,33 +23,33 @@ first_there at byte old =
     let first : at - at ≡ 0 = omega arith in
     patched-inside at (byte ∷ []) old at (record { from = omega arith; to = omega arith }) ∙ ap (λ (n : ℕ). get_or (byte ∷ []) n 0) first
 
-zero_here : (i : ℕ) (s : Story) → HasZero i (with_call s (close_gate i))
+zero_here : (i : ℕ) (s : Story) → HasZero i (with_call s (Write i (CLOSED ∷ [])))
 zero_here i s = record { byte = first_there i 0 (bytes_of s); readable = inl (record { from = omega arith; to = omega arith }) }
 
 apart : (i at : ℕ) → (i ≡ at) ⊎ IsOutside at 1 i
 apart i at = grind arith
 
-zero_kept : (i at : ℕ) (s : Story) → HasZero i s → HasZero i (with_call s (close_gate at))
+zero_kept : (i at : ℕ) (s : Story) → HasZero i s → HasZero i (with_call s (Write at (CLOSED ∷ [])))
 zero_kept i at s is =
     ⊎_elim
-    (λ here. subst (λ (n : ℕ). HasZero i (with_call s (close_gate n))) here (zero_here i s))
+    (λ here. subst (λ (n : ℕ). HasZero i (with_call s (Write n (CLOSED ∷ [])))) here (zero_here i s))
     (λ out. record { byte = patched-outside at (0 ∷ []) (bytes_of s) i out ∙ is.byte; readable = inr is.readable })
     (apart i at)
 
 zero_behind : (gate : ℕ → ℕ) (n count i : ℕ) (s : Story) → HasZero i s → HasZero i (after s (close_from gate n count))
 unfolding close_from
 zero_behind gate n zero i s is = is
-zero_behind gate n (suc count) i s is = zero_behind gate (n + 1) count i (with_call s (close_gate (gate n))) (zero_kept i (gate n) s is)
+zero_behind gate n (suc count) i s is = zero_behind gate (n + 1) count i (with_call s (Write (gate n) (CLOSED ∷ []))) (zero_kept i (gate n) s is)
 
 zero_each : (gate : ℕ → ℕ) (n count k : ℕ) (s : Story) → k < count → HasZero (gate (n + k)) (after s (close_from gate n count))
 unfolding close_from
 zero_each gate n zero k s lt = absurd (omega arith)
 zero_each gate n (suc count) zero s lt =
     let here : n ≡ n + 0 = omega arith in
-    subst (λ (m : ℕ). HasZero (gate m) (after s (close_from gate n (suc count)))) here (zero_behind gate (n + 1) count (gate n) (with_call s (close_gate (gate n))) (zero_here (gate n) s))
+    subst (λ (m : ℕ). HasZero (gate m) (after s (close_from gate n (suc count)))) here (zero_behind gate (n + 1) count (gate n) (with_call s (Write (gate n) (CLOSED ∷ []))) (zero_here (gate n) s))
 zero_each gate n (suc count) (suc k) s lt =
     let there : n + 1 + k ≡ n + suc k = omega arith in
-    subst (λ (m : ℕ). HasZero (gate m) (after s (close_from gate n (suc count)))) there (zero_each gate (n + 1) count k (with_call s (close_gate (gate n))) (omega arith))
+    subst (λ (m : ℕ). HasZero (gate m) (after s (close_from gate n (suc count)))) there (zero_each gate (n + 1) count k (with_call s (Write (gate n) (CLOSED ∷ []))) (omega arith))
 
 zero_first : (gate : ℕ → ℕ) (count k : ℕ) (s : Story) → k < count → HasZero (gate k) (after s (close_from gate 0 count))
 zero_first gate count k s lt = let here : 0 + k ≡ k = omega arith in subst (λ (m : ℕ). HasZero (gate m) (after s (close_from gate 0 count))) here (zero_each gate 0 count k s lt)

@@ -1,17 +1,14 @@
 -- The calls of a device that formatting it makes.
 use Rattle.std.specs.Prelude.{◌+◌, ◌*◌, ℕ, zero, suc, [], ◌∷◌, ◌++◌, Bool, Result}
-use Rattle.dev_model.specs.Story.{Read, Write, Sync, Call, Calls, DeviceState, WhereTold}
+use Rattle.dev_model.specs.Story.{Read, Write, Sync, Calls, DeviceState, WhereTold}
 use Rattle.dev_model.specs.Doing.{Made}
+use Rattle.gate.specs.declared.gates.TheConstants.{CLOSED}
 use Rattle.wal_log.specs.Places.{segment_start}
 use Rattle.wal_log.specs.State.{start_calls}
 use Rattle.superblock.specs.Calls.{TellsGate, close_superblock_if, write_superblock}
 use Rattle.comp_dir.specs.Places.{slot_start}
 use Rattle.comp_dir.specs.declared.places.TheConstants.{SLOTS}
 use Rattle.format_numbers.specs.declared.TheConstants.{LOG_START}
-
--- the gate at this place, closed
-abbrev pub close_gate : ℕ → Call
-close_gate at = Write at (0 ∷ [])
 
 -- the place of a gate, where the first stands here and each next one a step behind
 abbrev pub gate_at : (start step n : ℕ) → ℕ
@@ -20,7 +17,7 @@ gate_at start step n = start + step * n
 -- the gates from this number on, so many, closed
 unfoldable pub close_from : (gate : ℕ → ℕ) (n count : ℕ) → Calls
 close_from gate n zero = []
-close_from gate n (suc count) = close_gate (gate n) ∷ close_from gate (n + 1) count
+close_from gate n (suc count) = Write (gate n) (CLOSED ∷ []) ∷ close_from gate (n + 1) count
 
 -- the gate of each slot and the gate of each segment's header, and one sync
 abbrev pub close_gates : Calls

@@ -6,6 +6,7 @@ ghost use Rattle.device_format.specs.Planning.{close_from, close_gates, gate_at}
 use comp_dir::{DIRECTORY_START, SLOT_BYTES, SLOTS};
 use dev_model::{Device, Failed};
 use format_numbers::{FIRST_DATA_PAGE, LOG_START};
+use gate::CLOSED;
 use wal_log::SEGMENT_BYTES;
 
 /// Closes the gate of each slot and of each segment's header. Nothing is read before: the superblock is closed, so no opening
@@ -27,7 +28,7 @@ fn close_each<D: Device>(device: &mut D, start: u64, step: u64, count: u64) -> R
     ensures { Made (close_from (gate_at start step) 0 count) (D.seen device.old) (D.seen device.new) result }
 {
     for gate in 0..count {
-        device.write(start + step * gate, &[0])?;
+        device.write(start + step * gate, &[CLOSED])?;
     }
     Ok(())
 }
