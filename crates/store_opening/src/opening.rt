@@ -13,9 +13,9 @@ ghost use Rattle.store_state.specs.Numbered.{IsNumbered};
 ghost use Rattle.store_opening.specs.Openings.{IsRefusal, HasFaulted};
 ghost use Rattle.store_opening.specs.Read.{HasRead, AreLawfulSlots, log_fault};
 
+use crate::formatted::read_indexes;
 use crate::replay::state_of;
 use crate::slots::{OpenSlots, read_slots};
-use crate::formatted::read_indexes;
 use comp_dir::Slot;
 use dev_model::Device;
 use format_numbers::{FIRST_DATA_PAGE, LOG_START};
