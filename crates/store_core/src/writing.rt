@@ -15,11 +15,11 @@ ghost use Rattle.store_machine.specs.declared.events.Action.{Action};
 ghost use Rattle.store_machine.specs.declared.events.Refusal.{Refusal};
 ghost use Rattle.store_core.specs.Stores.{state_of};
 ghost use Rattle.store_core.specs.Tested.{TestsPages};
-ghost use Rattle.store_core.specs.Writing.{CanWrite, HasAppended, RefusesNow, WasRead, has_to_log, matter_of, old_point};
+ghost use Rattle.store_core.specs.Writing.{CanWrite, HasAppended, RefusesNow, Logged, IsNotLogged, WasRead, has_to_log, matter_of, old_point};
 
 use crate::reading::refused;
 use crate::store::Store;
-use dev_model::Device;
+use dev_model::{Device, Failed};
 use geo_base::{Note, Point, Row};
 use kept_state::{log_write, read_row};
 use std::alloc::AllocError;
@@ -103,6 +103,36 @@ impl<D: Device> Store<D> {
         self.state.reserve()
     }
 
+    // Logs a write of a key where this row stood, and lays its row in memory. Where the device fails, the store is stopped.
+    fn log_op(&mut self, op: &WriteOp, row: &Option<Row>) -> Result<u64, Failed>
+        requires ready { IsReady (state_of D.seen self.old) }
+        requires can { CanWrite (state_of D.seen self.old) }
+        requires room { 0 < self.old.acks.spare }
+        requires room_in_memory { 1 ≤ self.old.state.1 }
+        requires logs { has_to_log op.now (is_some row.now) ≡ true }
+        requires says { (table : Table) (disk : List (List PrimRow)) → WhereTold (D.seen self.old.device).story (λ s. IsLegible table disk self.old.state.0 s → SaysOld table (next_record self.old.log op.now (old_point row.now))) }
+        ensures logged { IfOk result (Logged (state_of D.seen self.old) (state_of D.seen self.new) op.now row.now) }
+        ensures fails { OnErr result (IsNotLogged (state_of D.seen self.old) (state_of D.seen self.new) op.now row.now) }
+        ensures ready { IsReady (state_of D.seen self.new) }
+    {
+        match log_write(
+            &mut self.device,
+            &mut self.log,
+            &mut self.state,
+            op,
+            old_point(row),
+        ) {
+            Ok(ack) => {
+                self.acks.add(ack);
+                Ok(ack)
+            }
+            Err(failed) => {
+                self.stopped = Some(self.device.faults());
+                Err(failed)
+            }
+        }
+    }
+
     // What a delete tells where nothing stood at the key.
     fn nothing_there(&mut self) -> Wrote
         requires ready { IsReady (state_of D.seen self.old) }
@@ -117,7 +147,7 @@ impl<D: Device> Store<D> {
         }
     }
 
-    // Logs a write of a key where this row stood, lays its row in memory, and answers. Where the device fails, the store is stopped.
+    // Logs and answers a write of a key where this row stood.
     fn write_over(&mut self, op: &WriteOp, row: &Option<Row>) -> Result<Wrote, Refusal>
         requires ready { IsReady (state_of D.seen self.old) }
         requires can { CanWrite (state_of D.seen self.old) }
@@ -131,24 +161,14 @@ impl<D: Device> Store<D> {
         ensures fault { IfErr result (λ refusal. refusal ≡ Refusal.Fault) }
         ensures ready { IsReady (state_of D.seen self.new) }
     {
-        match log_write(
-            &mut self.device,
-            &mut self.log,
-            &mut self.state,
-            op,
-            old_point(row),
-        ) {
+        match self.log_op(op, row) {
             Ok(ack) => {
-                self.acks.add(ack);
                 let seq = self.draw();
                 let old = matter_of(row);
                 let ops = self.log.records as u32;
                 Ok(Wrote { seq, old, ops, ack })
             }
-            Err(_) => {
-                self.stopped = Some(self.device.faults());
-                Err(Refusal::Fault)
-            }
+            Err(_) => Err(Refusal::Fault),
         }
     }
 
