@@ -12,4 +12,5 @@ pub mod Opened
 pub mod OwnJob
 pub mod Reading
 pub mod Room
+pub mod Stepping
 pub mod Steps

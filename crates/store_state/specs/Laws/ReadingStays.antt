@@ -162,6 +162,24 @@ legible-frozen table disk l s last none legible = record {
 pub legible-begun : (table : Table) (disk : List (List PrimRow)) (l : Lists) (s : Story) (row : JobRow) → IsLegible table disk l s → IsLegible table disk (begun row l) s
 legible-begun table disk l s row legible = record { shown = legible.shown; fits = legible.fits }
 
+pub kept-begun : (pages : ℕ) (log : Log) (table : Table) (l : Lists) (s : Story) (row : JobRow) → IsKept pages log table l s → row.written ≡ 0 → IsKept pages log table (begun row l) s
+kept-begun pages log table l s row kept none = record {
+  held = record {
+    rests = kept.held.rests;
+    components = kept.held.components;
+    slots = kept.held.slots;
+    frozen_writes = kept.held.frozen_writes;
+    active_writes = kept.held.active_writes;
+    writes = kept.held.writes;
+    frozen_is = kept.held.frozen_is;
+    active_is = kept.held.active_is;
+    active_count = kept.held.active_count;
+    rows_are = kept.held.rows_are;
+    cut_rows_are = kept.held.cut_rows_are;
+  };
+  under_way = record { pages = λ n lt. absurd (omega (arith, lt, none)); readable = λ page i lt on. absurd (omega (arith, lt, none)) };
+}
+
 pub legible-one_written : (table : Table) (disk : List (List PrimRow)) (l : Lists) (s : Story) → IsLegible table disk l s → IsLegible table disk (one_written l) s
 legible-one_written table disk l s legible = record { shown = legible.shown; fits = legible.fits }
 
