@@ -15,6 +15,5 @@ pub mod Replayed
 pub mod Opened
 pub mod Resting
 pub mod Showing
-pub mod Standing
 pub mod Told
 pub mod Without

@@ -1,10 +1,14 @@
 -- The store after the component of its job was installed, or wasn't.
 use Rattle.std.proofs.Common.{◌≡◌, ◌≢◌, ◌⊎◌, inl, inr, ⊎_elim, ℕ, zero, suc, ◌+◌, ◌-◌, ◌*◌, ◌<◌, ◌≤◌, List, [], ◌∷◌, ◌++◌, map, length, get_or, All, Option, Some, None, Contains, ◌↔◌, refl, sym, ◌∙◌, ap, subst, arith}
-use Rattle.std.proofs.lemmas.List.Elements.{All-head, All-tail, Contains-append_left, Contains-append_right, Contains-append_cases}
+use Rattle.std.proofs.lemmas.List.Elements.{Contains-append_left, Contains-append_right, Contains-append_cases}
 use Rattle.std.proofs.lemmas.Bool.Decides.{nat_tests}
-use Rattle.std.proofs.lemmas.Option.{none-some}
-use Rattle.std.specs.Prelude.{IsTrue, OnErr, Result, Ok, Err}
-use Rattle.dev_model.specs.Story.{Story, bytes_of, IsReadable}
+use Rattle.std.proofs.lemmas.Option.{none-some, same_Some}
+use Rattle.std.specs.Prelude.{IsTrue, Bool, true, false, Result, Ok, Err}
+use Rattle.std.specs.Result.{IsErr}
+use Rattle.dev_model.specs.Story.{DeviceState, Story, WhereTold, bytes_of, IsReadable}
+use Rattle.dev_model.specs.Doing.{Did}
+use Rattle.dev_model.specs.Moments.{LeavesOnly}
+use Rattle.dev_model.specs.Laws.Plans.{all_noted-told}
 use Rattle.dev_model.specs.Writes.{WritesWithin}
 use Rattle.table_model.specs.Table.{Table, rows_of}
 use Rattle.wal_log.specs.Later.{later}
@@ -22,8 +26,9 @@ use Rattle.comp_dir.specs.Places.{slot_start}
 use Rattle.comp_dir.specs.Rules.{IsSound}
 use Rattle.comp_dir.specs.Slots.{slot_bytes, slot_of}
 use Rattle.comp_dir.specs.Ranges.{HasRanges}
-use Rattle.comp_dir.specs.State.{IsClosed, with_slot}
-use Rattle.comp_dir.specs.declared.places.TheConstants.{LSN_LIMIT}
+use Rattle.comp_dir.specs.Resting.{IsAtRest as DirectoryAtRest, install_calls}
+use Rattle.comp_dir.specs.State.{IsClosed, IsOneOf, with_slot}
+use Rattle.comp_dir.specs.declared.places.TheConstants.{FIRST_DATA_PAGE, LSN_LIMIT, PRIMARY, SLOT_BYTES}
 use Rattle.comp_dir.specs.declared.slots.Slot.{Slot}
 use Rattle.page_codec.specs.declared.pages.TheConstants.{PAGE_BYTES}
 use Rattle.space_map.specs.Space.{is_in}
@@ -37,29 +42,27 @@ use Rattle.primary_ix.specs.declared.rows.PrimRow.{PrimRow}
 use Rattle.build_job.specs.Jobs.{Job, described}
 use Rattle.build_job.specs.Steps.{IsJob, IsPlaceable, steps_left}
 use Rattle.build_job.specs.Laws.Showing.{AreWritten-shows}
-use Rattle.component_image.specs.Components.{IsInExtent, IsInExtents}
+use Rattle.component_image.specs.Components.{components, IsInExtent}
 use Rattle.component_image.specs.Content.{Count}
 use Rattle.component_image.specs.Laid.{table_of}
-use Rattle.component_image.specs.Recovered.{primary_of}
+use Rattle.component_image.specs.Recovered.{primary_of, Recovers}
 use Rattle.component_image.specs.Resting.{Rests}
 use Rattle.component_image.specs.Standing.{MayStand}
+use Rattle.component_image.specs.Laws.Apart.{segments-apart}
+use Rattle.kept_state.proofs.Opening.{install-leaves, install-rests, install-within}
 use Rattle.kept_state.specs.Steps.{IsWritten}
 use Rattle.store_state.specs.declared.jobs.JobRow.{JobRow}
 use Rattle.store_state.specs.Lists.{Lists, frozen_rows, open_of, placed_up_to, job_of}
-use Rattle.store_state.specs.EveryList.{IsCut, IsLists, IsOpenSlot, IsPlanned, IsPlannedIf}
+use Rattle.store_state.specs.EveryList.{IsCut, IsLists, IsPlanned, IsPlannedIf}
 use Rattle.store_state.specs.OwnJob.{IsJobOf}
 use Rattle.store_state.specs.Steps.{installed}
+use Rattle.store_state.specs.Stepping.{KeepsTable}
 use Rattle.store_state.specs.Keeping.{IsKept, IsUnderWay, IsUnderWayIf, IsOnPage}
 use Rattle.store_state.specs.Numbered.{IsNumbered}
 use Rattle.store_state.specs.Reading.{IsLegible}
 use Rattle.kept_state.specs.Laws.Installing.{active-later, may-be-added, may-stand}
-use Rattle.store_state.specs.Laws.ReadingPages.{one_or_other, components-open, lent-inside}
-use Rattle.store_state.specs.Laws.ReadingStays.{legible-installed, legible-within}
-
--- what holds anyway holds after a failure
-pub after-failure : {X E : Type 0} (r : Result X E) (P : Type 0) → P → OnErr r P
-after-failure (Ok x) P holds = tt
-after-failure (Err e) P holds = holds
+use Rattle.store_state.specs.Laws.ReadingPages.{one_or_other}
+use Rattle.store_state.specs.Laws.ReadingStays.{legible-before, legible-installed}
 
 -- one element more at the head, or somewhere
 head-or : {X : Type 0} (x : X) (some others : List X) (e : X) → (Contains some e → Contains others e) → Contains (x ∷ some) e → Contains (x ∷ others) e
@@ -99,12 +102,6 @@ on-page first (suc pages) i low high =
     by_last (inl before) rest = let found : (n : ℕ) × (n < pages) × IsOnPage (first + n) i = rest before in (found.0, omega (arith, found.1), found.2)
     by_last (inr behind) rest = (pages, omega arith, record { from = behind; to = omega (arith, high) })
 
--- components stand behind the log
-behind-log : (pages : ℕ) (comps : List Numbered) (i : ℕ) → All (IsOpenSlot pages) comps → IsInExtents (map (λ e. e.1) comps) i → 1085440 ≤ i
-behind-log pages [] i all inside = absurd inside
-behind-log pages (e ∷ comps) i all (inl here) = omega (arith, (All-head (IsOpenSlot pages) e comps all).sound.extent.from, here.from)
-behind-log pages (e ∷ comps) i all (inr there) = behind-log pages comps i (All-tail (IsOpenSlot pages) e comps all) there
-
 -- the newest component says how many rows the table has with it
 newest-counts : (s : Slot) (slots others : List Slot) (lists : List (List PrimRow)) → slots ≡ s ∷ others → Count slots lists → s.table_rows ≡ length (rows_of (replayed (table_of lists) []))
 newest-counts s slots others lists are counted = by_first lists (subst (λ (xs : List Slot). Count xs lists) are counted)
@@ -130,11 +127,8 @@ module _ (l : Lists) (lists : IsLists l) (owner : ℕ) (job : Job) (of : IsJobOf
   own-rules : IsJob (job_of l of.row)
   own-rules = subst IsJob of.same rules
 
-  -- calls on the slot leave the store legible
-  pub legible-apart : (table : Table) (disk : List (List PrimRow)) (s t : Story) (now : Option Story) → WritesWithin (slot_start n) 64 s now → now ≡ Some t → IsLegible table disk l s → IsLegible table disk l t
-  legible-apart table disk s t now within told legible =
-      legible-within table disk l s t (slot_start n) 64 now lists legible within told
-      (λ i place. inr (omega (arith, number, planned.slot, behind-log l.space.pages l.components i (components-open l lists) (lent-inside l.components i place))))
+  low : slot_start n + SLOT_BYTES ≤ FIRST_DATA_PAGE * PAGE_BYTES
+  low = omega (arith, number, planned.slot)
 
   module _ (pages : ℕ) (log : Log) (table : Table) (s : Story) (kept : IsKept pages log table l s) where
     own-pages : IsUnderWay l of.row s
@@ -178,14 +172,6 @@ module _ (l : Lists) (lists : IsLists l) (owner : ℕ) (job : Job) (of : IsJobOf
             (subst (λ (x : List PrimRow). IsShown prim_layout (contents_of (of.row.plan.extent ∷ []) (Some s)) of.row.plan.extent.first (length x) x) same job-shown)
             legible)
 
-  -- and calls on the slot leave them so
-  pub legible-placed : (table : Table) (disk : List (List PrimRow)) (s t : Story) (now : Option Story) → WritesWithin (slot_start n) 64 s now → now ≡ Some t → IsLegible table disk l s
-      → IsLists (installed of.row l) → (pages : ℕ) (log : Log) → IsKept pages log table l s → IsLegible table (job.rows ∷ disk) (installed of.row l) t
-  legible-placed table disk s t now within told legible sound pages log kept =
-      subst (λ (j : Job). IsLegible table (j.rows ∷ disk) (installed of.row l) t) (sym of.same)
-      (legible-within table (frozen_rows l.frozen ∷ disk) (installed of.row l) s t (slot_start n) 64 now sound (legible-ahead pages log table s kept disk legible) within told
-      (λ i place. inr (omega (arith, number, planned.slot, behind-log l.space.pages (installed of.row l).components i (components-open (installed of.row l) sound) (lent-inside (installed of.row l).components i place)))))
-
   module _ (pages : ℕ) (log : Log) (table : Table) (s : Story) (kept : IsKept pages log table l s) (numbered : IsNumbered log l) (on_device : l.space.pages ≤ pages) (below : l.cut < LSN_LIMIT)
       (is_sound : IsPlaceable pages job → IsSound pages 0 slot) (ranges : HasRanges slot) where
     ordered : placed_up_to l.components + 1 ≤ l.cut
@@ -208,36 +194,32 @@ module _ (l : Lists) (lists : IsLists l) (owner : ℕ) (job : Job) (of : IsJobOf
     may-be : MayBeAdded pages 0 of.row.plan.slot (described (job_of l of.row)) (directory_of (bytes_of s))
     may-be = may-be-added pages log table l s of.row kept lists numbered of.is own-rules none-left sound back
 
-    pub may-stand-there : MayStand pages s n slot kept.held.frozen_writes kept.held.rests.recovers.lists
+    may-stand-there : MayStand pages s n slot kept.held.frozen_writes kept.held.rests.recovers.lists
     may-stand-there =
         subst (λ (m : ℕ). MayStand pages s m slot kept.held.frozen_writes kept.held.rests.recovers.lists) (sym number)
         (subst (λ (t : Slot). MayStand pages s of.row.plan.slot t kept.held.frozen_writes kept.held.rests.recovers.lists) (sym body)
         (may-stand pages log table l s of.row kept lists numbered of.is own-rules none-left sound back))
 
     -- its gate is closed
-    pub closed-there : IsClosed n s
+    closed-there : IsClosed n s
     closed-there is =
         none-some (slot_body n (bytes_of s))
         (sym may-be.closed ∙ ap (λ (m : ℕ). get_or (directory_of (bytes_of s)) m None) (sym number) ∙ directory-at n (bytes_of s) (omega (arith, number, planned.slot)) ∙ slot_at-open n (bytes_of s) is)
 
-    under_way : IsUnderWay l of.row s
-    under_way = subst (λ (j : Option JobRow). IsUnderWayIf l j s) of.is kept.under_way
-
     -- and its pages are written
-    pub written-there : IsWritten slot s
+    written-there : IsWritten slot s
     written-there i inside =
         let here : IsInExtent (described (job_of l of.row)) i = subst (λ (t : Slot). IsInExtent t i) body inside in
         let found : (k : ℕ) × (k < of.row.plan.extent.pages) × IsOnPage (of.row.plan.extent.first + k) i = on-page of.row.plan.extent.first of.row.plan.extent.pages i here.from here.to in
-        under_way.readable found.0 i (omega (arith, found.1, none-left)) found.2
+        (own-pages pages log table s kept).readable found.0 i (omega (arith, found.1, none-left)) found.2
 
     -- so the store keeps its table
-    module _ (t : Story) (rests : Rests pages log table t) (same_segments : segments_of LOG_START (bytes_of t) ≡ segments_of LOG_START (bytes_of s))
-        (directory : directory_of (bytes_of t) ≡ with_slot n slot (directory_of (bytes_of s))) (placed : primary_of (bytes_of t) ≡ slot ∷ primary_of (bytes_of s)) where
+    module _ (t : Story) (rests : Rests pages log table t) (same_segments : segments_of LOG_START (bytes_of t) ≡ segments_of LOG_START (bytes_of s)) (directory : directory_of (bytes_of t) ≡ with_slot n slot (directory_of (bytes_of s))) where
       same_directory : directory_of (bytes_of t) ≡ with_slot of.row.plan.slot (described (job_of l of.row)) (directory_of (bytes_of s))
       same_directory = directory ∙ (λ j. with_slot (number j) (body j) (directory_of (bytes_of s)))
 
       components_are : primary_of (bytes_of t) ≡ described (job_of l of.row) ∷ map (λ e. e.1) l.components
-      components_are = placed ∙ (λ j. body j ∷ kept.held.components j)
+      components_are = ap (components PRIMARY) directory ∙ may-stand-there.components_are ∙ (λ j. body j ∷ kept.held.components j)
 
       slots_are : (e : Numbered) → Contains (open_slots (directory_of (bytes_of t))) e ↔ Contains ((of.row.plan.slot, described (job_of l of.row)) ∷ open_of l) e
       slots_are e =
@@ -249,7 +231,7 @@ module _ (l : Lists) (lists : IsLists l) (owner : ℕ) (job : Job) (of : IsJobOf
             λ h. more.1 (head-or (of.row.plan.slot, described (job_of l of.row)) (open_of l) (open_slots (directory_of (bytes_of s))) e (λ there. (kept.held.slots e).1 there) h),
           )
 
-      pub kept-installed : IsKept pages log table (installed of.row l) t
+      kept-installed : IsKept pages log table (installed of.row l) t
       kept-installed = record {
         held = record {
           rests = rests;
@@ -266,3 +248,54 @@ module _ (l : Lists) (lists : IsLists l) (owner : ℕ) (job : Job) (of : IsJobOf
         };
         under_way = tt;
       }
+
+  -- The install, whether one of its calls failed or not. The premises behind the calls are what the directory says of it.
+  module _ (log : Log) (old now : DeviceState) (m : Lists) (numbered : IsNumbered log l) (on_device : l.space.pages ≤ old.pages) (below : l.cut < LSN_LIMIT) (is_sound : IsPlaceable old.pages job → IsSound old.pages 0 slot) (ranges : HasRanges slot)
+      (directories : WhereTold old.story (λ s. DirectoryAtRest s → IsClosed n s → LeavesOnly s now.story (λ image. IsOneOf (directory_of (bytes_of s)) (with_slot n slot (directory_of (bytes_of s))) (directory_of image)))) where
+    may : (table : Table) (s : Story) (kept : IsKept old.pages log table l s) → MayStand old.pages s n slot kept.held.frozen_writes kept.held.rests.recovers.lists
+    may table s kept = may-stand-there old.pages log table s kept numbered on_device below is_sound ranges
+
+    shut : (table : Table) (s : Story) → IsKept old.pages log table l s → IsClosed n s
+    shut table s kept = closed-there old.pages log table s kept numbered on_device below is_sound ranges
+
+    written : (table : Table) (s : Story) → IsKept old.pages log table l s → IsWritten slot s
+    written table s kept = written-there old.pages log table s kept numbered on_device below is_sound ranges
+
+    leaves : {X E : Type 0} (r : Result X E) → Did (install_calls n slot) old.story now.story r → (table : Table) (s : Story) → old.story ≡ Some s → IsKept old.pages log table l s → LeavesOnly s now.story (Recovers old.pages table)
+    leaves r did table s is kept =
+        install-leaves old.pages log table s n slot kept.held.frozen_writes kept.held.rests.recovers.lists kept.held.rests (may table s kept) (shut table s kept) (written table s kept) old.story now.story r is did
+        (directories s is kept.held.rests.directory_rest (shut table s kept))
+
+    legible : {X E : Type 0} (r : Result X E) → Did (install_calls n slot) old.story now.story r → (table : Table) (disk : List (List PrimRow)) (s : Story) → old.story ≡ Some s → IsLegible table disk l s
+        → (t : Story) → now.story ≡ Some t → IsLegible table disk l t
+    legible r did table disk s is before t told = legible-before table disk l s t (slot_start n) SLOT_BYTES now.story lists before (install-within n slot s old.story now.story r is did) told low
+
+    pub install-fails : {X E : Type 0} (r : Result X E) → IsErr r → Did (install_calls n slot) old.story now.story r → KeepsTable (λ disk. job.rows ∷ disk) old now log log l m r
+    install-fails (Ok x) err did = absurd (let no : false ≡ true = err in cc)
+    install-fails {X = X} (Err e) err did = record { any_moment = leaves {X = X} (Err e) did; kept = λ table. tt; legible = legible {X = X} (Err e) did; grows = λ table disk. tt }
+
+    -- after the last of them
+    pub install-keeps : {X E : Type 0} (x : X) → Did {E = E} (install_calls n slot) old.story now.story (Ok x) → m ≡ installed of.row l → IsLists m
+        → WhereTold old.story (λ s. DirectoryAtRest s → IsClosed n s → WhereTold now.story DirectoryAtRest)
+        → WhereTold old.story (λ s. DirectoryAtRest s → IsClosed n s → WhereTold now.story (λ t. directory_of (bytes_of t) ≡ with_slot n slot (directory_of (bytes_of s))))
+        → KeepsTable {E = E} (λ disk. job.rows ∷ disk) old now log log l m (Ok x)
+    install-keeps {E = E} x did after_it sound at_rest opened = record { any_moment = leaves {E = E} (Ok x) did; kept = kept_then; legible = legible {E = E} (Ok x) did; grows = grown }
+      where
+        within : (s t : Story) → old.story ≡ Some s → now.story ≡ Some t → WritesWithin (slot_start n) SLOT_BYTES s (Some t)
+        within s t is told = subst (WritesWithin (slot_start n) SLOT_BYTES s) told (install-within {E = E} n slot s old.story now.story (Ok x) is did)
+
+        kept_then : (table : Table) (s : Story) → old.story ≡ Some s → IsKept old.pages log table l s → (t : Story) → now.story ≡ Some t → IsKept old.pages log table m t
+        kept_then table s is kept t told =
+            let closed : IsClosed n s = shut table s kept in
+            let directory : directory_of (bytes_of t) ≡ with_slot n slot (directory_of (bytes_of s)) = opened s is kept.held.rests.directory_rest closed t told in
+            subst (λ (other : Lists). IsKept old.pages log table other t) (sym after_it)
+            (kept-installed old.pages log table s kept numbered on_device below is_sound ranges t
+            (install-rests {E = E} old.pages log table s n slot kept.held.frozen_writes kept.held.rests.recovers.lists kept.held.rests (may table s kept) closed (written table s kept) old.story now.story (Ok x) is did t told
+            (same_Some _ _ (sym (did ∙ all_noted-told s (install_calls n slot) old.story is) ∙ told)) (at_rest s is kept.held.rests.directory_rest closed t told) directory)
+            (segments-apart (slot_start n) SLOT_BYTES s t (Some t) (within s t is told) refl (inl (omega (arith, number, planned.slot)))) directory)
+
+        grown : (table : Table) (disk : List (List PrimRow)) (s : Story) → old.story ≡ Some s → IsKept old.pages log table l s × IsLegible table disk l s → (t : Story) → now.story ≡ Some t → IsLegible table (job.rows ∷ disk) m t
+        grown table disk s is both t told =
+            subst (λ (j : Job). IsLegible table (j.rows ∷ disk) m t) (sym of.same)
+            (legible-before table (frozen_rows l.frozen ∷ disk) m s t (slot_start n) SLOT_BYTES (Some t) sound
+            (subst (λ (other : Lists). IsLegible table (frozen_rows l.frozen ∷ disk) other s) (sym after_it) (legible-ahead old.pages log table s both.0 disk both.1)) (within s t is told) refl low)

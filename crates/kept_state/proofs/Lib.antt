@@ -1,13 +1,9 @@
-mod Apart
-mod Begun
 mod Counting
 mod Few
 mod Found
-mod Free
 mod Froze
 mod Installed
 mod Lent
-mod LogSteps
 mod Logged
 mod Opening
 mod Stays

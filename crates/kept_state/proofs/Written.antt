@@ -1,55 +1,49 @@
 -- The store after a page of its job was written, or wasn't.
-use Rattle.std.proofs.Common.{◌≡◌, ◌≢◌, ◌⊎◌, inl, inr, ⊎_elim, ℕ, ◌+◌, ◌*◌, ◌<◌, ◌≤◌, Bool, true, false, ◌||◌, List, [], ◌∷◌, ◌++◌, map, length, Option, Some, Contains, ◌↔◌, refl, sym, ◌∙◌, ap, subst, arith}
+use Rattle.std.proofs.Common.{◌≡◌, ◌≢◌, ◌⊎◌, inl, inr, ⊎_elim, ℕ, ◌+◌, ◌*◌, ◌<◌, ◌≤◌, Bool, true, false, ◌||◌, List, [], ◌∷◌, ◌++◌, map, length, Option, Some, refl, sym, ◌∙◌, ap, subst, arith}
 use Rattle.std.proofs.lemmas.Bool.Decides.{nat_tests}
 use Rattle.std.proofs.lemmas.Option.{same_Some}
-use Rattle.std.specs.Prelude.{IsTrue, Result, Ok, Err}
-use Rattle.std.specs.Result.{IsErr}
-use Rattle.dev_model.specs.Story.{Bytes, Calls, Story, after, bytes_of, IsOutside, IsReadable}
-use Rattle.dev_model.specs.Doing.{Did, HasStoppedIn}
+use Rattle.std.specs.Prelude.{IsTrue, OnOk, Result, Ok, Err}
+use Rattle.dev_model.specs.Story.{Bytes, DeviceState, Story, Write, after, part, with_call, bytes_of, IsOutside, IsReadable}
+use Rattle.dev_model.specs.Doing.{Did, noted}
 use Rattle.dev_model.specs.Writes.{WritesWithin}
-use Rattle.dev_model.specs.Laws.Frame.{bytes_of-spared}
-use Rattle.dev_model.specs.Laws.Ranges.{part-same}
+use Rattle.dev_model.specs.Laws.Frame.{WritesWithin-did}
+use Rattle.dev_model.specs.Laws.Ranges.{part-patched}
 use Rattle.table_model.specs.Table.{Table, rows_of}
 use Rattle.wal_log.specs.Later.{later}
 use Rattle.wal_log.specs.Rules.{records_of}
 use Rattle.wal_log.specs.Segments.{Segments, segments_of}
+use Rattle.wal_log.specs.declared.places.TheConstants.{LOG_BYTES}
 use Rattle.wal_log.specs.declared.log.Log.{Log}
 use Rattle.format_numbers.specs.declared.TheConstants.{LOG_START}
 use Rattle.component_image.specs.Replayed.{replayed}
 use Rattle.space_map.specs.Space.{is_in, is_reserved}
-use Rattle.comp_dir.specs.Directory.{Directory, Numbered, directory_of, open_slots}
-use Rattle.comp_dir.specs.declared.places.TheConstants.{FIRST_DATA_PAGE, PRIMARY}
+use Rattle.comp_dir.specs.Directory.{Numbered}
+use Rattle.comp_dir.specs.declared.places.TheConstants.{FIRST_DATA_PAGE}
 use Rattle.comp_dir.specs.declared.slots.Slot.{Slot}
+use Rattle.page_codec.specs.declared.pages.TheConstants.{PAGE_BYTES}
 use Rattle.primary_ix.specs.declared.rows.PrimRow.{PrimRow}
 use Rattle.build_job.specs.Jobs.{Job}
 use Rattle.build_job.specs.Steps.{steps_left}
 use Rattle.build_job.specs.Written.{IsPageOf}
 use Rattle.build_job.specs.Laws.Showing.{AreWritten-next}
-use Rattle.component_image.specs.Components.{components, IsInExtents}
-use Rattle.component_image.specs.Content.{page_at, ShowAll}
+use Rattle.component_image.specs.Components.{IsInExtents}
+use Rattle.component_image.specs.Content.{page_at}
 use Rattle.component_image.specs.Laid.{table_of}
-use Rattle.component_image.specs.Recovered.{primary_of}
 use Rattle.component_image.specs.Beside.{IsBeside}
 use Rattle.component_image.specs.Resting.{Rests}
-use Rattle.component_image.specs.Laws.Agreeing.{AgreeBeside, primaries, ShowAll-same}
-use Rattle.component_image.specs.Laws.Resting.{beside-agrees}
-use Rattle.component_image.specs.Laws.Showing.{same_lists_shown}
-use Rattle.kept_state.specs.Steps.{IsFree, HasPage}
+use Rattle.component_image.specs.Laws.Apart.{segments-apart}
+use Rattle.component_image.specs.Laws.Keeping.{elsewhere-images, elsewhere-rests}
 use Rattle.store_state.specs.declared.jobs.JobRow.{JobRow}
 use Rattle.store_state.specs.Lists.{Lists, extent_of, extents_of, open_of, placed_up_to, job_of}
 use Rattle.store_state.specs.EveryList.{IsLists, IsPlanned, IsPlannedIf}
 use Rattle.store_state.specs.OwnJob.{IsJobOf}
 use Rattle.store_state.specs.Steps.{one_written}
+use Rattle.store_state.specs.Stepping.{KeepsTable}
 use Rattle.store_state.specs.Keeping.{IsKept, IsUnderWay, IsUnderWayIf, IsOnPage}
 use Rattle.store_state.specs.Reading.{IsLegible}
 use Rattle.store_state.specs.Laws.ReadingPages.{lent-inside}
-use Rattle.store_state.specs.Laws.ReadingStays.{legible-within}
-use Rattle.kept_state.proofs.Stays.{readable-spared}
-
--- calls that stopped, where the answer is a failure
-pub stopped-did : {X E : Type 0} (calls : Calls) (old now : Option Story) (r : Result X E) → IsErr r → HasStoppedIn calls old now → Did calls old now r
-stopped-did calls old now (Ok x) err stopped = absurd (let no : false ≡ true = err in cc)
-stopped-did calls old now (Err e) err stopped = stopped
+use Rattle.store_state.specs.Laws.ReadingStays.{legible-one_written, legible-within}
+use Rattle.kept_state.proofs.Stays.{components-stay, lists-stay, page-stays, readable-stays, slots-stay}
 
 -- a free page has no place of these components
 free-outside : (comps more : List Numbered) (page i : ℕ) → is_reserved (extents_of (comps ++ more)) page ≡ false → IsInExtents (map (λ e. e.1) comps) i → IsOutside (page * 4096) 4096 i
@@ -67,121 +61,133 @@ free-outside (e ∷ comps) more page i free (inr there) = free-outside comps mor
     others true none = absurd (let no : true ≡ false = none in cc)
     others false none = none
 
--- a page that no component has is looked at by no opening
-free-beside : (page : ℕ) (bytes : Bytes) → FIRST_DATA_PAGE ≤ page → IsFree page bytes → (i : ℕ) → IsBeside bytes i → IsOutside (page * 4096) 4096 i
-free-beside page bytes behind free i (inl (inl is)) = inl (omega (arith, is, behind))
-free-beside page bytes behind free i (inl (inr looked)) = inl (omega (arith, looked.1, behind))
-free-beside page bytes behind free i (inr (inl looked)) = inl (⊎_elim (λ here. omega (arith, here, looked.1, behind)) (λ in_it. omega (arith, in_it.2, looked.1, behind)) looked.2)
-free-beside page bytes behind free i (inr (inr inside)) = free i inside
-
 -- The job that was begun, and its next page.
-module _ (l : Lists) (lists : IsLists l) (owner : ℕ) (job : Job) (of : IsJobOf l owner job) (left : 0 < steps_left job) (page : ℕ) (next : page ≡ job.plan.extent.first + job.written) where
-  pub planned : IsPlanned l of.row
+module _ (l : Lists) (lists : IsLists l) (owner : ℕ) (job : Job) (of : IsJobOf l owner job) (left : 0 < steps_left job) where
+  abbrev page : ℕ
+  page = job.plan.extent.first + job.written
+
+  planned : IsPlanned l of.row
   planned = subst (IsPlannedIf l) of.is lists.planned
 
-  next-is : page ≡ of.row.plan.extent.first + of.row.written
-  next-is = next ∙ ap (λ (j : Job). j.plan.extent.first + j.written) of.same
-
-  has-left : of.row.written < of.row.plan.extent.pages
-  has-left =
-      let some : 0 < steps_left (job_of l of.row) = subst (λ (j : Job). 0 < steps_left j) of.same left in
-      omega (arith, some)
+  page_is : page ≡ of.row.plan.extent.first + of.row.written
+  page_is = ap (λ (j : Job). j.plan.extent.first + j.written) of.same
 
   reserved : is_reserved (extents_of (open_of l)) page ≡ false
-  reserved = planned.free page inside
-    where
-      inside : IsTrue (is_in page of.row.plan.extent)
-      inside = grind (arith, nat_tests, has-left, next-is)
+  reserved =
+      let some : 0 < steps_left (job_of l of.row) = subst (λ (j : Job). 0 < steps_left j) of.same left in
+      let inside : IsTrue (is_in page of.row.plan.extent) = grind (arith, nat_tests, some, page_is) in
+      planned.free page inside
 
   behind : FIRST_DATA_PAGE ≤ page
-  behind = omega (arith, planned.from, next-is)
+  behind = omega (arith, planned.from, page_is)
 
-  -- no component has the page
-  pub next-free : (pages : ℕ) (log : Log) (table : Table) (s : Story) → IsKept pages log table l s → IsFree page (bytes_of s)
-  next-free pages log table s kept i inside = free-outside l.components l.ignored page i reserved (subst (λ (slots : List Slot). IsInExtents slots i) kept.held.components inside)
+  apart : (page * PAGE_BYTES + PAGE_BYTES ≤ LOG_START) ⊎ (LOG_START + LOG_BYTES ≤ page * PAGE_BYTES)
+  apart = inr (omega (arith, behind))
 
-  -- the store can be read as before
-  module _ (table : Table) (disk : List (List PrimRow)) (s t : Story) (now : Option Story) (within : WritesWithin (page * 4096) 4096 s now) (told : now ≡ Some t) (legible : IsLegible table disk l s) where
-    pub legible-beside : IsLegible table disk l t
-    legible-beside =
-        legible-within table disk l s t (page * 4096) 4096 now lists legible within told
-        (λ i place. free-outside l.components l.ignored page i reserved (lent-inside l.components i place))
+  -- nothing that an opening looks at stands there, and no component
+  off-page : (pages : ℕ) (log : Log) (table : Table) (s : Story) → IsKept pages log table l s → (i : ℕ) → IsBeside (bytes_of s) i → IsOutside (page * PAGE_BYTES) PAGE_BYTES i
+  off-page pages log table s kept i (inl (inl is)) = inl (omega (arith, is, behind))
+  off-page pages log table s kept i (inl (inr looked)) = inl (omega (arith, looked.1, behind))
+  off-page pages log table s kept i (inr (inl looked)) = inl (⊎_elim (λ here. omega (arith, here, looked.1, behind)) (λ in_it. omega (arith, in_it.2, looked.1, behind)) looked.2)
+  off-page pages log table s kept i (inr (inr inside)) = free-outside l.components l.ignored page i reserved (subst (λ (slots : List Slot). IsInExtents slots i) kept.held.components inside)
 
-    pub legible-written : IsLegible table disk (one_written l) t
-    legible-written = record { shown = legible-beside.shown; fits = legible-beside.fits }
+  module _ (bytes : List ℕ) (wide : length bytes ≡ PAGE_BYTES) (is_page : IsPageOf job.rows job.written bytes) where
+    module _ (pages : ℕ) (log : Log) (table : Table) (s t : Story) (kept : IsKept pages log table l s) (ends : with_call s (Write (page * PAGE_BYTES) bytes) ≡ t) (within : WritesWithin (page * PAGE_BYTES) PAGE_BYTES s (Some t)) where
+      off : (i : ℕ) → IsBeside (bytes_of s) i → IsOutside (page * PAGE_BYTES) PAGE_BYTES i
+      off = off-page pages log table s kept
 
-  -- and keeps its table
-  module _ (pages : ℕ) (log : Log) (table : Table) (s t : Story) (now : Option Story) (bytes : List ℕ) (kept : IsKept pages log table l s) (within : WritesWithin (page * 4096) 4096 s now) (told : now ≡ Some t)
-      (rests : Rests pages log table t) (same_directory : directory_of (bytes_of t) ≡ directory_of (bytes_of s)) (same_segments : segments_of LOG_START (bytes_of t) ≡ segments_of LOG_START (bytes_of s))
-      (there : HasPage page bytes t) (is_page : IsPageOf job.rows job.written bytes) where
-    ends_there : after s within.calls ≡ t
-    ends_there = same_Some _ _ (sym within.told ∙ told)
+      rests : Rests pages log table t
+      rests = elsewhere-rests pages log table s t (page * PAGE_BYTES) PAGE_BYTES (Some t) kept.held.rests within refl off apart
 
-    same_primary : primary_of (bytes_of t) ≡ primary_of (bytes_of s)
-    same_primary = ap (components PRIMARY) same_directory
+      bytes_are : page_at (bytes_of t) page ≡ bytes
+      bytes_are =
+          ap (λ (u : Story). page_at (bytes_of u) page) (sym ends)
+          ∙ ap (λ (n : ℕ). part (page * PAGE_BYTES) n (bytes_of (with_call s (Write (page * PAGE_BYTES) bytes)))) (sym wide)
+          ∙ part-patched (page * PAGE_BYTES) bytes (bytes_of s)
 
-    agrees : AgreeBeside (bytes_of s) (bytes_of t)
-    agrees = beside-agrees pages log table s t (page * 4096) 4096 now kept.held.rests within told (free-beside page (bytes_of s) behind (next-free pages log table s kept))
+      under_way : IsUnderWay l of.row s
+      under_way = subst (λ (j : Option JobRow). IsUnderWayIf l j s) of.is kept.under_way
 
-    same_lists : rests.recovers.lists ≡ kept.held.rests.recovers.lists
-    same_lists =
-        same_lists_shown (bytes_of t) (primary_of (bytes_of t)) rests.recovers.lists kept.held.rests.recovers.lists rests.recovers.shown
-        (subst (λ (x : List Slot). ShowAll (bytes_of t) x kept.held.rests.recovers.lists) (sym same_primary)
-        (ShowAll-same (bytes_of s) (bytes_of t) (primary_of (bytes_of s)) kept.held.rests.recovers.lists (primaries pages 0 (directory_of (bytes_of s)) kept.held.rests.recovers.opens.directory) agrees.content kept.held.rests.recovers.shown))
+      -- the other pages stay
+      others : (n i : ℕ) → n ≢ of.row.plan.extent.first + of.row.written → n * 4096 ≤ i → i < n * 4096 + 4096 → IsOutside (page * PAGE_BYTES) PAGE_BYTES i
+      others n i other low high =
+          let either : (n < page) ⊎ (page < n) = grind (arith, other, page_is) in
+          ⊎_elim (λ before. inl (omega (arith, before, high))) (λ later. inr (omega (arith, later, low))) either
 
-    under_way : IsUnderWay l of.row s
-    under_way = subst (λ (j : Option JobRow). IsUnderWayIf l j s) of.is kept.under_way
+      readable : (n i : ℕ) → n < of.row.written + 1 → IsOnPage (of.row.plan.extent.first + n) i → IsReadable t.past i
+      readable n i lt on = ⊎_elim before here which
+        where
+          which : (n < of.row.written) ⊎ (n ≡ of.row.written)
+          which = grind (arith, lt)
 
-    -- the other pages stay
-    page_stays : (n : ℕ) → n ≢ of.row.plan.extent.first + of.row.written → page_at (bytes_of t) n ≡ page_at (bytes_of s) n
-    page_stays n other =
-        part-same (n * 4096) 4096 (bytes_of t) (bytes_of s) (λ i low high.
-        subst (λ (u : Story). bytes_of u i ≡ bytes_of s i) ends_there (bytes_of-spared s within.calls i (within.spared i (outside i low high))))
-      where
-        either : (n < page) ⊎ (page < n)
-        either = grind (arith, other, next-is)
+          before : n < of.row.written → IsReadable t.past i
+          before less = readable-stays pages log table l s t (page * PAGE_BYTES) PAGE_BYTES kept within off i (inl (omega (arith, less, on.to, page_is))) (under_way.readable n i less on)
 
-        outside : (i : ℕ) → n * 4096 ≤ i → i < n * 4096 + 4096 → IsOutside (page * 4096) 4096 i
-        outside i low high = ⊎_elim (λ before. inl (omega (arith, before, high))) (λ later. inr (omega (arith, later, low))) either
+          here : n ≡ of.row.written → IsReadable t.past i
+          here same = subst (λ (u : Story). IsReadable u.past i) ends (inl (record { from = omega (arith, same, on.from, page_is); to = omega (arith, same, on.to, page_is, wide) }))
 
-    readable_now : (n i : ℕ) → n < of.row.written + 1 → IsOnPage (of.row.plan.extent.first + n) i → IsReadable t.past i
-    readable_now n i lt on = ⊎_elim before here which
-      where
-        which : (n < of.row.written) ⊎ (n ≡ of.row.written)
-        which = grind (arith, lt)
+      page_there : IsPageOf (job_of l of.row).rows of.row.written (page_at (bytes_of t) (of.row.plan.extent.first + of.row.written))
+      page_there = subst (IsPageOf (job_of l of.row).rows of.row.written) (sym bytes_are ∙ ap (page_at (bytes_of t)) page_is) (subst (λ (j : Job). IsPageOf j.rows j.written bytes) of.same is_page)
 
-        before : n < of.row.written → IsReadable t.past i
-        before less = subst (λ (u : Story). IsReadable u.past i) ends_there
-            (readable-spared s within.calls i (within.spared i (inl (omega (arith, less, on.to, next-is)))) (under_way.readable n i less on))
+      under_way_now : IsUnderWay (one_written l) (record of.row { written = of.row.written + 1 }) t
+      under_way_now = record {
+        pages = AreWritten-next (job_of l of.row) (page_at (bytes_of s)) (page_at (bytes_of t)) under_way.pages
+            (λ n other. page-stays pages log table l s t (page * PAGE_BYTES) PAGE_BYTES kept within off n (λ i. others n i other)) page_there;
+        readable = readable;
+      }
 
-        here : n ≡ of.row.written → IsReadable t.past i
-        here same = there.readable i (omega (arith, same, on.from, next-is)) (omega (arith, same, on.to, next-is))
+      kept-written : IsKept pages log table (one_written l) t
+      kept-written = record {
+        held = record {
+          rests = rests;
+          components = components-stay pages log table l s t (page * PAGE_BYTES) PAGE_BYTES kept within off;
+          slots = slots-stay pages log table l s t (page * PAGE_BYTES) PAGE_BYTES kept within off;
+          frozen_writes = kept.held.frozen_writes;
+          active_writes = kept.held.active_writes;
+          writes = ap (λ (segments : Segments). later (placed_up_to l.components) (records_of segments)) (segments-apart (page * PAGE_BYTES) PAGE_BYTES s t (Some t) within refl apart) ∙ kept.held.writes;
+          frozen_is = kept.held.frozen_is;
+          active_is = kept.held.active_is;
+          active_count = kept.held.active_count;
+          rows_are = kept.held.rows_are;
+          cut_rows_are = kept.held.cut_rows_are ∙ ap (λ (lists : List (List PrimRow)). length (rows_of (replayed (table_of lists) kept.held.frozen_writes)))
+              (sym (lists-stay pages log table l s t (page * PAGE_BYTES) PAGE_BYTES kept within off table rests.recovers));
+        };
+        under_way = subst (λ (j : Option JobRow). IsUnderWayIf (one_written l) (one_written (record l { job = j })).job t) (sym of.is) under_way_now;
+      }
 
-    page_there : IsPageOf (job_of l of.row).rows of.row.written (page_at (bytes_of t) (of.row.plan.extent.first + of.row.written))
-    page_there =
-        subst (IsPageOf (job_of l of.row).rows of.row.written) (sym there.bytes_are ∙ ap (page_at (bytes_of t)) next-is)
-        (subst (λ (j : Job). IsPageOf j.rows j.written bytes) of.same is_page)
+    module _ {X E : Type 0} (old now : DeviceState) (m : Lists) where
+      within : (r : Result X E) (s : Story) → old.story ≡ Some s → Did (Write (page * PAGE_BYTES) bytes ∷ []) old.story now.story r → WritesWithin (page * PAGE_BYTES) PAGE_BYTES s now.story
+      within r s is did =
+          WritesWithin-did (page * PAGE_BYTES) PAGE_BYTES s (Write (page * PAGE_BYTES) bytes ∷ []) old.story now.story r is did (λ i out. (subst (λ (n : ℕ). IsOutside (page * PAGE_BYTES) n i) (sym wide) out, tt))
 
-    under_way_now : IsUnderWay (one_written l) (record of.row { written = of.row.written + 1 }) t
-    under_way_now = record {
-      pages = AreWritten-next (job_of l of.row) (page_at (bytes_of s)) (page_at (bytes_of t)) under_way.pages page_stays page_there;
-      readable = readable_now;
-    }
+      legible : (r : Result X E) → Did (Write (page * PAGE_BYTES) bytes ∷ []) old.story now.story r → (table : Table) (disk : List (List PrimRow)) (s : Story) → old.story ≡ Some s → IsLegible table disk l s
+          → (t : Story) → now.story ≡ Some t → IsLegible table disk l t
+      legible r did table disk s is before t told =
+          legible-within table disk l s t (page * PAGE_BYTES) PAGE_BYTES now.story lists before (within r s is did) told (λ i place. free-outside l.components l.ignored page i reserved (lent-inside l.components i place))
 
-    pub kept-written : IsKept pages log table (one_written l) t
-    kept-written = record {
-      held = record {
-        rests = rests;
-        components = same_primary ∙ kept.held.components;
-        slots = subst (λ (d : Directory). (e : Numbered) → Contains (open_slots d) e ↔ Contains (open_of l) e) (sym same_directory) kept.held.slots;
-        frozen_writes = kept.held.frozen_writes;
-        active_writes = kept.held.active_writes;
-        writes = ap (λ (segments : Segments). later (placed_up_to l.components) (records_of segments)) same_segments ∙ kept.held.writes;
-        frozen_is = kept.held.frozen_is;
-        active_is = kept.held.active_is;
-        active_count = kept.held.active_count;
-        rows_are = kept.held.rows_are;
-        cut_rows_are = kept.held.cut_rows_are ∙ ap (λ (lists : List (List PrimRow)). length (rows_of (replayed (table_of lists) kept.held.frozen_writes))) (sym same_lists);
-      };
-      under_way = subst (λ (j : Option JobRow). IsUnderWayIf (one_written l) (one_written (record l { job = j })).job t) (sym of.is) under_way_now;
-    }
+      pub page-keeps : (log : Log) (r : Result X E) → Did (Write (page * PAGE_BYTES) bytes ∷ []) old.story now.story r → OnOk r (m ≡ one_written l) → KeepsTable (λ disk. disk) old now log log l m r
+      page-keeps log r did after_it = record {
+        any_moment = λ table s is kept. record {
+          calls = (within r s is did).calls;
+          told = (within r s is did).told;
+          each = elsewhere-images old.pages log table s (after s (within r s is did).calls) (page * PAGE_BYTES) PAGE_BYTES now.story kept.held.rests (within r s is did) (within r s is did).told
+              (off-page old.pages log table s kept) apart;
+        };
+        kept = λ table. kept table r did after_it;
+        legible = legible r did;
+        grows = λ table disk. grows table disk r did after_it;
+      }
+        where
+          kept : (table : Table) (r : Result X E) → Did (Write (page * PAGE_BYTES) bytes ∷ []) old.story now.story r → OnOk r (m ≡ one_written l)
+              → OnOk r ((s : Story) → old.story ≡ Some s → IsKept old.pages log table l s → (t : Story) → now.story ≡ Some t → IsKept old.pages log table m t)
+          kept table (Err e) did after_it = tt
+          kept table (Ok x) did after_it = λ s is kept t told.
+              subst (λ (other : Lists). IsKept old.pages log table other t) (sym after_it)
+              (kept-written old.pages log table s t kept (same_Some _ _ (sym (did ∙ ap (noted (Write (page * PAGE_BYTES) bytes)) is) ∙ told))
+              (subst (WritesWithin (page * PAGE_BYTES) PAGE_BYTES s) told (within (Ok x) s is did)))
+
+          grows : (table : Table) (disk : List (List PrimRow)) (r : Result X E) → Did (Write (page * PAGE_BYTES) bytes ∷ []) old.story now.story r → OnOk r (m ≡ one_written l)
+              → OnOk r ((s : Story) → old.story ≡ Some s → IsKept old.pages log table l s × IsLegible table disk l s → (t : Story) → now.story ≡ Some t → IsLegible table disk m t)
+          grows table disk (Err e) did after_it = tt
+          grows table disk (Ok x) did after_it = λ s is both t told.
+              subst (λ (other : Lists). IsLegible table disk other t) (sym after_it) (legible-one_written table disk l t (legible (Ok x) did table disk s is both.1 t told))

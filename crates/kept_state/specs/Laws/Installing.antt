@@ -47,7 +47,7 @@ use Rattle.kept_state.specs.Laws.Records.{newest-are}
 use Rattle.store_state.specs.Keeping.{IsKept, IsFrozenOf, IsUnderWay, IsUnderWayIf}
 use Rattle.store_state.specs.Numbered.{IsNumbered}
 
-length-directory : (bytes : Bytes) → length (directory_of bytes) ≡ SLOTS
+pub length-directory : (bytes : Bytes) → length (directory_of bytes) ≡ SLOTS
 unfolding directory_of
 length-directory bytes = length-slots_from SLOTS 0 bytes
 
