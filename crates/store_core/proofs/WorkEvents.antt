@@ -1,9 +1,9 @@
 -- The events of freezes, jobs and installs.
-use Rattle.std.proofs.Common.{◌≡◌, ◌≢◌, ◌⊎◌, inl, inr, ℕ, suc, ◌+◌, ◌-◌, ◌*◌, ◌<◌, ◌≤◌, Bool, true, false, List, [], ◌∷◌, ◌++◌, length, Option, Some, None, Ok, Err, is_some, refl, sym, ◌∙◌, ap, subst, arith}
+use Rattle.std.proofs.Common.{◌≡◌, ◌≢◌, ◌⊎◌, inl, inr, ℕ, suc, ◌+◌, ◌-◌, ◌*◌, ◌<◌, ◌≤◌, Bool, true, false, List, [], ◌∷◌, ◌++◌, length, Option, Some, None, Result, Ok, Err, is_some, refl, sym, ◌∙◌, ap, subst, arith}
 use Rattle.std.proofs.lemmas.List.{length-append}
-use Rattle.dev_model.specs.Counts.{Rose}
+use Rattle.std.proofs.lemmas.Option.{same_Some}
 use Rattle.dev_model.specs.Story.{Calls, Story, WhereTold, Write, clock_of}
-use Rattle.dev_model.specs.Doing.{HasStoppedIn, all_noted}
+use Rattle.dev_model.specs.Doing.{Made}
 use Rattle.dev_model.specs.DeviceCalls.{made_at, ok_calls}
 use Rattle.dev_model.specs.declared.calls.DeviceCall.{DeviceCall}
 use Rattle.dev_model.specs.declared.calls.DeviceAct.TheVariants.{WriteAt}
@@ -22,10 +22,12 @@ use Rattle.store_machine.specs.declared.events.Refusal.TheVariants.{Fault, Stopp
 use Rattle.store_state.specs.Beginning.{IsRefused, MayBegin, fresh}
 use Rattle.store_state.specs.Begun.{Begins}
 use Rattle.primary_ix.specs.declared.rows.PrimRow.{PrimRow}
+use Rattle.store_state.specs.Laws.ReadingStays.{kept-begun, legible-begun}
 use Rattle.store_state.specs.Lists.{Lists, job_of}
 use Rattle.store_state.specs.OwnJob.{IsJobOf}
 use Rattle.store_state.specs.EveryList.{IsLists, IsPlanned, IsPlannedIf}
 use Rattle.store_state.specs.Steps.{begun, frozen_at, installed, one_written}
+use Rattle.store_state.specs.Stepping.{KeepsTable}
 use Rattle.store_state.specs.declared.faults.BeginFault.{BeginFault}
 use Rattle.store_state.specs.declared.faults.BeginFault.TheVariants as begin
 use Rattle.store_state.specs.declared.jobs.JobRow.{JobRow}
@@ -37,8 +39,8 @@ use Rattle.store_machine.specs.Runs.{Acknowledges, IsFront, IsOwned, MakesCalls,
 use Rattle.store_machine.specs.Damage.{damaged_page}
 use Rattle.store_machine.specs.Laws.Damages.{no-cause}
 use Rattle.store_machine.specs.Laws.Events.{Owes, still-event, stays-go_on, works-event, fails-event}
-use Rattle.store_machine.specs.Laws.LogCalls.{IsPlan-turn}
-use Rattle.store_machine.specs.Laws.Working.{LeavesTable, WorkFails, stays-there, stopped_calls, stopped_state}
+use Rattle.store_machine.specs.Laws.LogCalls.{IsPlan, IsPlan-turn}
+use Rattle.store_machine.specs.Laws.Working.{WorkFails, Works, stays-there, stopped_calls, stopped_state}
 use Rattle.store_machine.specs.declared.events.Action.{Action}
 use Rattle.store_machine.specs.declared.events.Action.TheVariants.{Begin, Freeze, Install, JobWrite}
 use Rattle.store_core.specs.Begun.{begin_of}
@@ -68,39 +70,55 @@ nothing s owner a owned acks stops no_fault sound same none needs =
     (stays-go_on s s.seq)
 
 -- what a step on the device shows of it, whether it was answered or failed
-pub record IsStep (old : StoreState) (now : DeviceState) : Type 0 where
+pub record IsStep {X E : Type 0} (plan : Calls) (grown : List (List PrimRow) → List (List PrimRow)) (old : StoreState) (now : DeviceState) (log : Log) (lists : Lists) (r : Result X E) : Type 0 where
   pub going : old.stopped ≡ None
-  pub pages : now.pages ≡ old.device.pages
-  pub leaves : LeavesTable old now
-  pub faults : old.device.faults ≤ now.faults
-  pub time : old.device.clock ≤ now.clock
+  pub made : Made plan old.device now r
+  pub table : KeepsTable grown old.device now old.log log old.lists lists r
+  pub clock_told : (s : Story) → now.story ≡ Some s → now.clock ≡ clock_of s
 
--- what is owed of a step that was answered, and of one that failed
-answered : (old : StoreState) (now : DeviceState) (owner : ℕ) (a : Action) → IsStep old now → IsOwned a (Some owner) → Acknowledges a now.clock → Stops a false → is_fault a ≡ false → damaged_page a ≡ None
-    → ((known : Bool) (m : Machine) → Has old m → Needs known m a) → Owes old now owner a false
-answered old now owner a step owned acks stops no_fault sound needs = record {
-  needs = λ known o m has tells. needs known m has;
-  owned = owned;
-  acks = acks;
-  stops = stops;
-  faults = step.faults;
-  cause = λ fault. absurd (let no : true ≡ false = sym fault ∙ no_fault in cc);
-  time = step.time;
-  causes = no-cause old.lists now a sound;
-}
+module _ {X E : Type 0} (plan : Calls) (planned : IsPlan plan) (grown : List (List PrimRow) → List (List PrimRow)) (old : StoreState) (now : DeviceState) (log : Log) (lists : Lists) (owner : ℕ) (a : Action) (owned : IsOwned a (Some owner))
+    (sound : damaged_page a ≡ None) (needs : (known : Bool) (m : Machine) → Has old m → Needs known m a) where
+  -- one that was answered
+  module _ (x : X) (step : IsStep {E = E} plan grown old now log lists (Ok x)) where
+    works : lists.rows ≡ old.lists.rows → Works old (record old { device = now; log = log; lists = lists }) grown plan
+    works rows = record {
+      going = step.going;
+      leaves = record { any_moment = step.table.any_moment; clock_told = step.clock_told };
+      planned = planned;
+      did = step.made.did;
+      kept = step.table.kept;
+      legible = λ table disk s told kept legible. step.table.grows table disk s told (kept, legible);
+      rows = rows;
+    }
 
-failed : (old : StoreState) (now : DeviceState) (owner : ℕ) (a : Action) → IsStep old now → IsOwned a (Some owner) → Acknowledges a now.clock → Stops a true → damaged_page a ≡ None → Rose old.device.faults now.faults
-    → ((known : Bool) (m : Machine) → Has old m → Needs known m a) → Owes old now owner a true
-failed old now owner a step owned acks stops sound rose needs = record {
-  needs = λ known o m has tells. needs known m has;
-  owned = owned;
-  acks = acks;
-  stops = stops;
-  faults = step.faults;
-  cause = λ _. rose;
-  time = step.time;
-  causes = no-cause old.lists now a sound;
-}
+    answered : Acknowledges a now.clock → Stops a false → is_fault a ≡ false → Owes old now owner a false
+    answered acks stops no_fault = record {
+      needs = λ known o m has tells. needs known m has;
+      owned = owned;
+      acks = acks;
+      stops = stops;
+      faults = step.made.cause.later;
+      cause = λ fault. absurd (let no : true ≡ false = sym fault ∙ no_fault in cc);
+      time = omega (arith, step.made.ticks);
+      causes = no-cause old.lists now a sound;
+    }
+
+  -- and one that failed
+  module _ (e : E) (step : IsStep {X = X} plan grown old now log lists (Err e)) where
+    fails : WorkFails old now plan
+    fails = record { going = step.going; leaves = record { any_moment = step.table.any_moment; clock_told = step.clock_told }; planned = planned; did = step.made.did; legible = step.table.legible }
+
+    failed : Acknowledges a now.clock → Stops a true → Owes old now owner a true
+    failed acks stops = record {
+      needs = λ known o m has tells. needs known m has;
+      owned = owned;
+      acks = acks;
+      stops = stops;
+      faults = step.made.cause.later;
+      cause = λ _. step.made.cause.failed;
+      time = step.made.ticks.0;
+      causes = no-cause old.lists now a sound;
+    }
 
 -- the clock of the story is that of the machine
 same-clock : (o : Opening) (old : StoreState) (m : Machine) → Has old m → (t : Tells o old m) → clock_of t.now ≡ m.clock
@@ -141,16 +159,13 @@ not-frozen s owner least going why =
     there m has (inl few) = inl (subst (λ (l : Log). l.records < least) has.log few)
     there m has (inr waits) = inr (subst (λ (l : Lists). l.frozen ≢ None) has.lists waits)
 
-pub froze : (old : StoreState) (now : DeviceState) (log : Log) (lists : Lists) (owner least : ℕ) → IsStep old now → MayTurn old least
-    → now.story ≡ all_noted (turn_calls old.log) old.device.story
-    → ((table : Table) → WhereTold old.device.story (λ s. IsKept old.device.pages old.log table old.lists s → WhereTold now.story (IsKept old.device.pages log table lists)))
-    → ((table : Table) (disk : List (List PrimRow)) → WhereTold old.device.story (λ s. IsLegible table disk old.lists s → WhereTold now.story (IsLegible table disk lists)))
-    → log ≡ log_turned old.log → lists ≡ frozen_at (old.log.next_lsn - 1) old.lists
-    → Makes old (record old { device = now; log = log; lists = lists }) owner (Freeze least (Ok true))
-froze old now log lists owner least step may did kept legible log_is lists_is =
-    works-event old now log lists (λ d. d) (turn_calls old.log) owner (Freeze least (Ok true)) step.pages
-    (record { going = step.going; leaves = step.leaves; planned = IsPlan-turn old.log; did = did; kept = kept; legible = λ table disk s told kept. legible table disk s told; rows = ap (λ (l : Lists). l.rows) lists_is })
-    (answered old now owner (Freeze least (Ok true)) step tt tt refl refl refl (λ known m has. may-freeze old least may m has))
+pub froze : {X E : Type 0} (old : StoreState) (now : DeviceState) (log : Log) (lists : Lists) (owner least : ℕ) (x : X) → IsStep {E = E} (turn_calls old.log) (λ d. d) old now log lists (Ok x) → MayTurn old least
+    → log ≡ log_turned old.log → lists ≡ frozen_at (old.log.next_lsn - 1) old.lists → Makes old (record old { device = now; log = log; lists = lists }) owner (Freeze least (Ok true))
+froze {E = E} old now log lists owner least x step may log_is lists_is =
+    let needs : (known : Bool) (m : Machine) → Has old m → Needs known m (Freeze least (Ok true)) = λ known m has. may-freeze old least may m has in
+    works-event old now log lists (λ d. d) (turn_calls old.log) owner (Freeze least (Ok true)) step.made.same_pages
+    (works {E = E} (turn_calls old.log) (IsPlan-turn old.log) (λ d. d) old now log lists owner (Freeze least (Ok true)) tt refl needs x step (ap (λ (l : Lists). l.rows) lists_is))
+    (answered {E = E} (turn_calls old.log) (IsPlan-turn old.log) (λ d. d) old now log lists owner (Freeze least (Ok true)) tt refl needs x step tt refl refl)
     (λ m has.
     (λ i. record m { seq = sym has.seq i; log = log_turned (sym has.log i); lists = frozen_at ((sym has.log i).next_lsn - 1) (sym has.lists i); table = m.table })
     ∙ (λ i. record m { seq = old.seq; log = sym log_is i; lists = sym lists_is i; table = m.table }))
@@ -161,33 +176,27 @@ pub after-stop : (old new : StoreState) (now : DeviceState) (log : Log) (lists :
     → new ≡ record old { device = now; log = log; lists = lists; stopped = Some now.faults } → new ≡ stopped_state old now
 after-stop old new now log lists log_is lists_is is = is ∙ (λ i. record old { device = now; log = log_is i; lists = lists_is i; stopped = Some now.faults })
 
-pub freeze-failed : (old new : StoreState) (now : DeviceState) (owner least : ℕ) → new ≡ stopped_state old now → IsStep old now → MayTurn old least
-    → HasStoppedIn (turn_calls old.log) old.device.story now.story
-    → ((table : Table) (disk : List (List PrimRow)) → WhereTold old.device.story (λ s. IsLegible table disk old.lists s → WhereTold now.story (IsLegible table disk old.lists)))
-    → Rose old.device.faults now.faults → Makes old new owner (Freeze least (Err Fault))
-freeze-failed old new now owner least is step may stopped legible rose =
+pub freeze-failed : {X E : Type 0} (old new : StoreState) (now : DeviceState) (log : Log) (lists : Lists) (owner least : ℕ) (e : E) → new ≡ stopped_state old now → IsStep {X = X} (turn_calls old.log) (λ d. d) old now log lists (Err e) → MayTurn old least
+    → Makes old new owner (Freeze least (Err Fault))
+freeze-failed {X = X} old new now log lists owner least e is step may =
     let plan : Calls = turn_calls old.log in
-    let fails : WorkFails old now plan = record { going = step.going; leaves = step.leaves; planned = IsPlan-turn old.log; did = stopped; legible = legible } in
+    let needs : (known : Bool) (m : Machine) → Has old m → Needs known m (Freeze least (Err Fault)) = λ known m has. may-freeze old least may m has in
+    let is_fails : WorkFails old now plan = fails {X = X} plan (IsPlan-turn old.log) (λ d. d) old now log lists owner (Freeze least (Err Fault)) tt refl needs e step in
     subst (λ (s : StoreState). Makes old s owner (Freeze least (Err Fault))) (sym is)
-    (fails-event old now plan owner (Freeze least (Err Fault)) step.pages fails
-    (failed old now owner (Freeze least (Err Fault)) step tt tt refl refl rose (λ known m has. may-freeze old least may m has))
+    (fails-event old now plan owner (Freeze least (Err Fault)) step.made.same_pages is_fails
+    (failed {X = X} plan (IsPlan-turn old.log) (λ d. d) old now log lists owner (Freeze least (Err Fault)) tt refl needs e step tt refl)
     refl refl (λ m. refl)
-    (λ o m has t by. subst (λ (all : List DeviceCall). IsFront all (stopped_calls old now plan fails)) (λ i. ok_calls (same-clock o old m has t i) (turn_calls (has.log i))) by.front))
+    (λ o m has t by. subst (λ (all : List DeviceCall). IsFront all (stopped_calls old now plan is_fails)) (λ i. ok_calls (same-clock o old m has t i) (turn_calls (has.log i))) by.front))
 
 pub begin-stopped : (s : StoreState) (owner faults : ℕ) → s.stopped ≡ Some faults → Makes s s owner (Begin (Err (Stopped faults)))
 begin-stopped s owner faults is = nothing s owner (Begin (Err (Stopped faults))) tt tt refl refl refl (λ m. refl) (λ m. refl) (λ known m has. sym has.stopped ∙ is)
 
--- a begun job leaves what is kept, and what can be read
-pub record LeavesKept (old : StoreState) : Type 0 where
-  pub kept : (table : Table) (s : Story) (row : JobRow) → IsKept old.device.pages old.log table old.lists s → row.written ≡ 0 → IsKept old.device.pages old.log table (begun row old.lists) s
-  pub legible : (table : Table) (disk : List (List PrimRow)) (s : Story) (row : JobRow) → IsLegible table disk old.lists s → IsLegible table disk (begun row old.lists) s
-
-pub began : (old : StoreState) (lists : Lists) (owner : ℕ) (job : Option Job) → old.stopped ≡ None → Begins owner old.lists lists (Ok job) → LeavesKept old
+pub began : (old : StoreState) (lists : Lists) (owner : ℕ) (job : Option Job) → old.stopped ≡ None → Begins owner old.lists lists (Ok job)
     → Makes old (record old { lists = lists }) owner (begin_of owner (Ok job))
-began old lists owner None going begins leaves =
+began old lists owner None going begins =
     subst (λ (l : Lists). Makes old (record old { lists = l }) owner (Begin (Ok None))) (sym begins.1)
     (nothing old owner (Begin (Ok None)) tt tt refl refl refl (λ m. refl) (λ m. refl) (λ known m has. (sym has.stopped ∙ going, ap (λ (l : Lists). l.frozen) (sym has.lists) ∙ begins.0)))
-began old lists owner (Some job) going begins leaves =
+began old lists owner (Some job) going begins =
     let row : JobRow = fresh owner job.plan in
     let own : OwnedJob = record { owner = owner; job = job } in
     subst (λ (l : Lists). Makes old (record old { lists = l }) owner (Begin (Ok (Some own)))) (sym begins.lists)
@@ -205,7 +214,7 @@ began old lists owner (Some job) going begins leaves =
     (λ m has. λ i. record m { seq = sym has.seq i; log = sym has.log i; lists = begun row (sym has.lists i); table = m.table })
     refl (λ m. refl)
     (λ o m has t. stays-there o old (record old { lists = begun row old.lists; seq = old.seq }) m has t refl refl refl refl
-    (λ table s kept. leaves.kept table s row kept refl) (λ table disk s legible. leaves.legible table disk s row legible)))
+    (λ table s kept. kept-begun old.device.pages old.log table old.lists s row kept refl) (λ table disk s legible. legible-begun table disk old.lists s row legible)))
 
 begin-refuses : (old : StoreState) (lists : Lists) (owner ops : ℕ) (fault : BeginFault) → old.stopped ≡ None → Begins owner old.lists lists (Err fault) → ops ≡ old.log.records
     → (m : Machine) → Has old m → RefusesBegin m (refusal_of_begin ops fault)
@@ -252,16 +261,15 @@ write-stopped s owner faults job its left is =
     nothing s owner (JobWrite (record { owner = owner; job = job }) (Err (Stopped faults))) refl tt refl refl refl (λ m. refl) (λ m. refl)
     (λ known m has. (is-writing s owner job its left m has, sym has.stopped ∙ is))
 
-pub wrote-page : (old : StoreState) (now : DeviceState) (lists : Lists) (owner : ℕ) (job : Job) (bytes : List ℕ) → IsStep old now → IsJobOf old.lists owner job → 0 < steps_left job
-    → length bytes ≡ PAGE_BYTES → now.story ≡ all_noted (Write ((job.plan.extent.first + job.written) * PAGE_BYTES) bytes ∷ []) old.device.story
-    → ((table : Table) → WhereTold old.device.story (λ s. IsKept old.device.pages old.log table old.lists s → WhereTold now.story (IsKept old.device.pages old.log table lists)))
-    → ((table : Table) (disk : List (List PrimRow)) → WhereTold old.device.story (λ s. IsLegible table disk old.lists s → WhereTold now.story (IsLegible table disk lists)))
-    → lists ≡ one_written old.lists → Makes old (record old { device = now; lists = lists }) owner (JobWrite (record { owner = owner; job = job }) (Ok tt))
-wrote-page old now lists owner job bytes step its left wide did kept legible lists_is =
+pub wrote-page : {X E : Type 0} (old : StoreState) (now : DeviceState) (lists : Lists) (owner : ℕ) (job : Job) (bytes : List ℕ) (x : X) → IsStep {E = E} (Write ((job.plan.extent.first + job.written) * PAGE_BYTES) bytes ∷ []) (λ d. d) old now old.log lists (Ok x)
+    → IsJobOf old.lists owner job → 0 < steps_left job → length bytes ≡ PAGE_BYTES → lists ≡ one_written old.lists → Makes old (record old { device = now; lists = lists }) owner (JobWrite (record { owner = owner; job = job }) (Ok tt))
+wrote-page {E = E} old now lists owner job bytes x step its left wide lists_is =
     let own : OwnedJob = record { owner = owner; job = job } in
-    works-event old now old.log lists (λ d. d) (Write ((job.plan.extent.first + job.written) * PAGE_BYTES) bytes ∷ []) owner (JobWrite own (Ok tt)) step.pages
-    (record { going = step.going; leaves = step.leaves; planned = tt; did = did; kept = kept; legible = λ table disk s told kept. legible table disk s told; rows = ap (λ (l : Lists). l.rows) lists_is })
-    (answered old now owner (JobWrite own (Ok tt)) step refl tt refl refl refl (λ known m has. (sym has.stopped ∙ step.going, is-writing old owner job its left m has)))
+    let plan : Calls = Write ((job.plan.extent.first + job.written) * PAGE_BYTES) bytes ∷ [] in
+    let needs : (known : Bool) (m : Machine) → Has old m → Needs known m (JobWrite own (Ok tt)) = λ known m has. (sym has.stopped ∙ step.going, is-writing old owner job its left m has) in
+    works-event old now old.log lists (λ d. d) plan owner (JobWrite own (Ok tt)) step.made.same_pages
+    (works {E = E} plan tt (λ d. d) old now old.log lists owner (JobWrite own (Ok tt)) refl refl needs x step (ap (λ (l : Lists). l.rows) lists_is))
+    (answered {E = E} plan tt (λ d. d) old now old.log lists owner (JobWrite own (Ok tt)) refl refl needs x step tt refl refl)
     (λ m has.
     (λ i. record m { seq = sym has.seq i; log = sym has.log i; lists = one_written (sym has.lists i); table = m.table })
     ∙ (λ i. record m { seq = old.seq; log = old.log; lists = sym lists_is i; table = m.table }))
@@ -274,19 +282,18 @@ no-calls call (first ∷ made) front =
     let count : 1 ≡ suc (length (made ++ front.failed ∷ front.left)) = ap (λ (calls : List DeviceCall). length calls) front.front in
     absurd (omega (arith, count, length-append made (front.failed ∷ front.left)))
 
-pub page-failed : (old new : StoreState) (now : DeviceState) (owner : ℕ) (job : Job) (at : ℕ) (bytes : List ℕ) → new ≡ stopped_state old now → IsStep old now → IsJobOf old.lists owner job → 0 < steps_left job
-    → HasStoppedIn (Write at bytes ∷ []) old.device.story now.story
-    → ((table : Table) (disk : List (List PrimRow)) → WhereTold old.device.story (λ s. IsLegible table disk old.lists s → WhereTold now.story (IsLegible table disk old.lists)))
-    → Rose old.device.faults now.faults → Makes old new owner (JobWrite (record { owner = owner; job = job }) (Err Fault))
-page-failed old new now owner job at bytes is step its left stopped legible rose =
+pub page-failed : {X E : Type 0} (old new : StoreState) (now : DeviceState) (lists : Lists) (owner : ℕ) (job : Job) (at : ℕ) (bytes : List ℕ) (e : E) → new ≡ stopped_state old now → IsStep {X = X} (Write at bytes ∷ []) (λ d. d) old now old.log lists (Err e)
+    → IsJobOf old.lists owner job → 0 < steps_left job → Makes old new owner (JobWrite (record { owner = owner; job = job }) (Err Fault))
+page-failed {X = X} old new now lists owner job at bytes e is step its left =
     let own : OwnedJob = record { owner = owner; job = job } in
     let plan : Calls = Write at bytes ∷ [] in
-    let fails : WorkFails old now plan = record { going = step.going; leaves = step.leaves; planned = tt; did = stopped; legible = legible } in
+    let needs : (known : Bool) (m : Machine) → Has old m → Needs known m (JobWrite own (Err Fault)) = λ known m has. (is-writing old owner job its left m has, sym has.stopped ∙ step.going) in
+    let is_fails : WorkFails old now plan = fails {X = X} plan tt (λ d. d) old now old.log lists owner (JobWrite own (Err Fault)) refl refl needs e step in
     subst (λ (s : StoreState). Makes old s owner (JobWrite own (Err Fault))) (sym is)
-    (fails-event old now plan owner (JobWrite own (Err Fault)) step.pages fails
-    (failed old now owner (JobWrite own (Err Fault)) step refl tt refl refl rose (λ known m has. (is-writing old owner job its left m has, sym has.stopped ∙ step.going)))
+    (fails-event old now plan owner (JobWrite own (Err Fault)) step.made.same_pages is_fails
+    (failed {X = X} plan tt (λ d. d) old now old.log lists owner (JobWrite own (Err Fault)) refl refl needs e step tt refl)
     refl refl (λ m. refl)
-    (λ o m has t by. no-calls _ (stopped_calls old now plan fails) by.front))
+    (λ o m has t by. no-calls _ (stopped_calls old now plan is_fails) by.front))
 
 is-written_out : (old : StoreState) (owner : ℕ) (job : Job) → IsJobOf old.lists owner job → IsLists old.lists → steps_left job ≡ 0 → (m : Machine) → Has old m → IsWrittenOut m (record { owner = owner; job = job })
 is-written_out old owner job its lists done m has =
@@ -303,33 +310,30 @@ install-stopped s owner faults job its lists done is =
     nothing s owner (Install (record { owner = owner; job = job }) (Err (Stopped faults))) refl tt refl refl refl (λ m. refl) (λ m. refl)
     (λ known m has. (is-written_out s owner job its lists done m has, sym has.stopped ∙ is))
 
-pub was-installed : (old : StoreState) (now : DeviceState) (lists : Lists) (owner : ℕ) (job : Job) → IsStep old now → (its : IsJobOf old.lists owner job) → IsLists old.lists → steps_left job ≡ 0
-    → now.story ≡ all_noted (install_calls job.plan.slot (described job)) old.device.story
-    → ((table : Table) → WhereTold old.device.story (λ s. IsKept old.device.pages old.log table old.lists s → WhereTold now.story (IsKept old.device.pages old.log table lists)))
-    → ((table : Table) (disk : List (List PrimRow)) → WhereTold old.device.story (λ s. IsKept old.device.pages old.log table old.lists s → IsLegible table disk old.lists s
-    → WhereTold now.story (IsLegible table (job.rows ∷ disk) lists)))
-    → lists ≡ installed its.row old.lists → Makes old (record old { device = now; lists = lists }) owner (Install (record { owner = owner; job = job }) (Ok tt))
-was-installed old now lists owner job step its sound done did kept legible lists_is =
+pub was-installed : {X E : Type 0} (old : StoreState) (now : DeviceState) (lists : Lists) (owner : ℕ) (job : Job) (x : X) → IsStep {E = E} (install_calls job.plan.slot (described job)) (λ d. job.rows ∷ d) old now old.log lists (Ok x)
+    → (its : IsJobOf old.lists owner job) → IsLists old.lists → steps_left job ≡ 0 → lists ≡ installed its.row old.lists → Makes old (record old { device = now; lists = lists }) owner (Install (record { owner = owner; job = job }) (Ok tt))
+was-installed {E = E} old now lists owner job x step its sound done lists_is =
     let own : OwnedJob = record { owner = owner; job = job } in
+    let plan : Calls = install_calls job.plan.slot (described job) in
+    let needs : (known : Bool) (m : Machine) → Has old m → Needs known m (Install own (Ok tt)) = λ known m has. (sym has.stopped ∙ step.going, is-written_out old owner job its sound done m has) in
     let after_it : lists ≡ installed (row_of own) old.lists = lists_is ∙ ap (λ (row : JobRow). installed row old.lists) (own-row old.lists owner job its) in
-    works-event old now old.log lists (λ d. job.rows ∷ d) (install_calls job.plan.slot (described job)) owner (Install own (Ok tt)) step.pages
-    (record { going = step.going; leaves = step.leaves; planned = tt; did = did; kept = kept; legible = legible; rows = ap (λ (l : Lists). l.rows) lists_is })
-    (answered old now owner (Install own (Ok tt)) step refl tt refl refl refl (λ known m has. (sym has.stopped ∙ step.going, is-written_out old owner job its sound done m has)))
+    works-event old now old.log lists (λ d. job.rows ∷ d) plan owner (Install own (Ok tt)) step.made.same_pages
+    (works {E = E} plan tt (λ d. job.rows ∷ d) old now old.log lists owner (Install own (Ok tt)) refl refl needs x step (ap (λ (l : Lists). l.rows) lists_is))
+    (answered {E = E} plan tt (λ d. job.rows ∷ d) old now old.log lists owner (Install own (Ok tt)) refl refl needs x step tt refl refl)
     (λ m has.
     (λ i. record m { seq = sym has.seq i; log = sym has.log i; lists = installed (row_of own) (sym has.lists i); disk = job.rows ∷ m.disk; table = m.table })
     ∙ (λ i. record m { seq = old.seq; log = old.log; lists = sym after_it i; disk = job.rows ∷ m.disk; table = m.table }))
     refl (λ m has. λ i. ok_calls (has.clock i) (install_calls job.plan.slot (described job)))
 
-pub install-failed : (old new : StoreState) (now : DeviceState) (owner : ℕ) (job : Job) → new ≡ stopped_state old now → IsStep old now → IsJobOf old.lists owner job → IsLists old.lists → steps_left job ≡ 0
-    → HasStoppedIn (install_calls job.plan.slot (described job)) old.device.story now.story
-    → ((table : Table) (disk : List (List PrimRow)) → WhereTold old.device.story (λ s. IsLegible table disk old.lists s → WhereTold now.story (IsLegible table disk old.lists)))
-    → Rose old.device.faults now.faults → Makes old new owner (Install (record { owner = owner; job = job }) (Err Fault))
-install-failed old new now owner job is step its sound done stopped legible rose =
+pub install-failed : {X E : Type 0} (old new : StoreState) (now : DeviceState) (lists : Lists) (owner : ℕ) (job : Job) (e : E) → new ≡ stopped_state old now → IsStep {X = X} (install_calls job.plan.slot (described job)) (λ d. job.rows ∷ d) old now old.log lists (Err e)
+    → IsJobOf old.lists owner job → IsLists old.lists → steps_left job ≡ 0 → Makes old new owner (Install (record { owner = owner; job = job }) (Err Fault))
+install-failed {X = X} old new now lists owner job e is step its sound done =
     let own : OwnedJob = record { owner = owner; job = job } in
     let plan : Calls = install_calls job.plan.slot (described job) in
-    let fails : WorkFails old now plan = record { going = step.going; leaves = step.leaves; planned = tt; did = stopped; legible = legible } in
+    let needs : (known : Bool) (m : Machine) → Has old m → Needs known m (Install own (Err Fault)) = λ known m has. (is-written_out old owner job its sound done m has, sym has.stopped ∙ step.going) in
+    let is_fails : WorkFails old now plan = fails {X = X} plan tt (λ d. job.rows ∷ d) old now old.log lists owner (Install own (Err Fault)) refl refl needs e step in
     subst (λ (s : StoreState). Makes old s owner (Install own (Err Fault))) (sym is)
-    (fails-event old now plan owner (Install own (Err Fault)) step.pages fails
-    (failed old now owner (Install own (Err Fault)) step refl tt refl refl rose (λ known m has. (is-written_out old owner job its sound done m has, sym has.stopped ∙ step.going)))
+    (fails-event old now plan owner (Install own (Err Fault)) step.made.same_pages is_fails
+    (failed {X = X} plan tt (λ d. job.rows ∷ d) old now old.log lists owner (Install own (Err Fault)) refl refl needs e step tt refl)
     refl refl (λ m. refl)
-    (λ o m has t by. subst (λ (all : List DeviceCall). IsFront all (stopped_calls old now plan fails)) (λ i. ok_calls (same-clock o old m has t i) (install_calls job.plan.slot (described job))) by.front))
+    (λ o m has t by. subst (λ (all : List DeviceCall). IsFront all (stopped_calls old now plan is_fails)) (λ i. ok_calls (same-clock o old m has t i) (install_calls job.plan.slot (described job))) by.front))

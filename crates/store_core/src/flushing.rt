@@ -11,7 +11,7 @@ ghost use Rattle.store_state.specs.OwnJob.{IsJobOf};
 use crate::store::Store;
 use build_job::BuildJob;
 use dev_model::Device;
-use kept_state::{begun_job_is_kept, freeze, install_job, write_job_page};
+use kept_state::{freeze, install_job, write_job_page};
 use std::alloc::Global;
 use store_machine::Refusal;
 use store_state::BeginFault;
@@ -77,7 +77,6 @@ impl<D: Device> Store<D> {
         if let Some(faults) = self.stopped {
             return Err(Refusal::Stopped { faults });
         }
-        begun_job_is_kept();
         let ops = self.log.records as u32;
         match self.state.begin(alloc, owner) {
             Ok(job) => Ok(job),

@@ -15,10 +15,6 @@ pub returns-in-Ok-clause-event : goal.returns-in-Ok-clause-event
 returns-in-Ok-clause-event g c =
     let old : StoreState = state_of g.D.Device.seen c.args.self.now in
     began old c.begin.new.self.0 c.args.owner c.in-Ok.job c.in_default.is c.in-Ok.ensures.begins
-    (record {
-      kept = λ table s row kept fresh. c.begun_job_is_kept.ensures.kept old.device.pages old.log table old.lists s row kept fresh;
-      legible = λ table disk s row legible. c.begun_job_is_kept.ensures.legible table disk old.lists s row legible;
-    })
 
 pub returns-in-Err-clause-event : goal.returns-in-Err-clause-event
 returns-in-Err-clause-event g c =

@@ -24,31 +24,31 @@ returns-in-Ok-clause-logged g c =
             logs = record {
               going = c.requires.can.going;
               op_is = refl;
-              any_moment = c.in-Ok.ensures.any_moment;
+              any_moment = λ table s told kept says. c.in-Ok.ensures.table.any_moment table says s told kept;
               says = subst (λ (p : Option Point). (table : Table) (disk : List (List PrimRow)) → WhereTold old.device.story (λ s. IsLegible table disk old.lists s → SaysOld table (next_record old.log c.args.op.now p))) (sym c.old_point.ensures) c.requires.says;
-              legible = c.in-Ok.ensures.legible;
-              pages = c.in-Ok.ensures.same_pages;
+              legible = c.in-Ok.ensures.table.legible;
+              pages = c.in-Ok.ensures.made.same_pages;
               clock_told = λ s is. g.met.D.Device.clock_told _ s is;
             };
-            did = c.in-Ok.ensures.did;
-            kept = c.in-Ok.ensures.kept;
+            did = c.in-Ok.ensures.made.did;
+            kept = λ table s told kept says. c.in-Ok.ensures.table.kept table says s told kept;
             log_is = c.in-Ok.ensures.log;
             lists_are = c.in-Ok.ensures.lists;
             ack_is = c.in-Ok.ensures.ack;
           });
       width = subst (λ (p : Option Point). length (record_bytes (next_record old.log c.args.op.now p)) ≡ 95) c.old_point.ensures c.in-Ok.ensures.width;
-      time = omega (arith, c.in-Ok.ensures.ticks);
-      later = c.in-Ok.ensures.cause.later;
+      time = omega (arith, c.in-Ok.ensures.made.ticks);
+      later = c.in-Ok.ensures.made.cause.later;
       rest = ap (λ (acks : List ℕ). record old { device = now; log = c.log_write.new.log; lists = c.log_write.new.state.0; acks = acks }) c.add.ensures.items;
     }
 
 pub returns-in-Ok-clause-ready : goal.returns-in-Ok-clause-ready
 returns-in-Ok-clause-ready g c = record {
-  pages = omega (arith, c.requires.ready.pages, c.in-Ok.ensures.same_pages);
-  space = ap (λ (l : Lists). l.space.pages) c.in-Ok.ensures.lists ∙ c.requires.ready.space ∙ sym c.in-Ok.ensures.same_pages;
-  lists = c.in-Ok.ensures.sound;
-  numbered = c.in-Ok.ensures.numbered;
-  counted = c.in-Ok.ensures.counted;
+  pages = omega (arith, c.requires.ready.pages, c.in-Ok.ensures.made.same_pages);
+  space = ap (λ (l : Lists). l.space.pages) c.in-Ok.ensures.lists ∙ c.requires.ready.space ∙ sym c.in-Ok.ensures.made.same_pages;
+  lists = c.in-Ok.ensures.in_order.lists;
+  numbered = c.in-Ok.ensures.in_order.numbered;
+  counted = c.in-Ok.ensures.in_order.counted;
 }
 
 pub returns-in-Err-clause-fails : goal.returns-in-Err-clause-fails
@@ -61,17 +61,17 @@ returns-in-Err-clause-fails g c =
             logs = record {
               going = c.requires.can.going;
               op_is = refl;
-              any_moment = c.in-Err.ensures.any_moment;
+              any_moment = λ table s told kept says. c.in-Err.ensures.table.any_moment table says s told kept;
               says = subst (λ (p : Option Point). (table : Table) (disk : List (List PrimRow)) → WhereTold old.device.story (λ s. IsLegible table disk old.lists s → SaysOld table (next_record old.log c.args.op.now p))) (sym c.old_point.ensures) c.requires.says;
-              legible = c.in-Err.ensures.legible;
-              pages = c.in-Err.ensures.same_pages;
+              legible = c.in-Err.ensures.table.legible;
+              pages = c.in-Err.ensures.made.same_pages;
               clock_told = λ s is. g.met.D.Device.clock_told _ s is;
             };
-            did = c.in-Err.ensures.did;
+            did = c.in-Err.ensures.made.did;
           });
       width = subst (λ (p : Option Point). length (record_bytes (next_record old.log c.args.op.now p)) ≡ 95) c.old_point.ensures c.in-Err.ensures.width;
-      time = c.in-Err.ensures.ticks.0;
-      rose = c.in-Err.ensures.cause.failed;
-      later = c.in-Err.ensures.cause.later;
-      rest = λ i. record old { device = now; log = c.in-Err.ensures.same_log i; lists = (c.in-Err.ensures.unchanged i).0; stopped = Some (c.faults.ensures i) };
+      time = c.in-Err.ensures.made.ticks.0;
+      rose = c.in-Err.ensures.made.cause.failed;
+      later = c.in-Err.ensures.made.cause.later;
+      rest = λ i. record old { device = now; log = c.in-Err.ensures.unchanged.0 i; lists = (c.in-Err.ensures.unchanged.1 i).0; stopped = Some (c.faults.ensures i) };
     }
