@@ -1,5 +1,5 @@
 -- The store after its active list was frozen.
-use Rattle.std.proofs.Common.{◌≡◌, inl, inr, ℕ, ◌+◌, ◌<◌, ◌≤◌, Bool, true, false, List, [], ◌++◌, length, append-nil, set, All, Option, Some, None, Result, Ok, Err, refl, sym, ◌∙◌, ap, subst, arith}
+use Rattle.std.proofs.Common.{◌≡◌, inl, inr, ℕ, ◌+◌, ◌<◌, true, false, List, [], ◌++◌, length, append-nil, set, All, Option, Some, None, Result, Ok, Err, refl, sym, ◌∙◌, ap, subst, arith}
 use Rattle.std.proofs.lemmas.Nat.{mod_below}
 use Rattle.std.proofs.lemmas.Option.{same_Some}
 use Rattle.std.proofs.lemmas.List.Elements.{All-nil, All-cons}
@@ -154,7 +154,7 @@ module _ (old now : DeviceState) (log next : Log) (l m : Lists) (in_order : AreI
   freeze-failed (Err e) err = record { any_moment = leaves; kept = λ table. tt; legible = legible; grows = λ table disk. tt }
 
   pub freeze-keeps : {X E : Type 0} (x : X) (last : ℕ) → m ≡ frozen_at last l → next.start ≡ log.start → next.records ≡ 0
-      → (WhereTold old.story (LogAtRest log) → WhereTold now.story (LogAtRest next))
+      → WhereTold old.story (λ s. LogAtRest log s → WhereTold now.story (LogAtRest next))
       → WhereTold old.story (λ s. LogAtRest log s → IsLogOf log (segments_of log.start (bytes_of s)) → WhereTold now.story (λ t. IsLogOf next (segments_of log.start (bytes_of t))))
       → KeepsTable {E = E} (λ disk. disk) old now log next l m (Ok x)
   freeze-keeps x last frozen start records at_rest log_of = record { any_moment = leaves; kept = kept_then; legible = legible; grows = grown }
@@ -166,7 +166,7 @@ module _ (old now : DeviceState) (log next : Log) (l m : Lists) (in_order : AreI
           subst (λ (other : Lists). IsKept old.pages next table other t) (sym frozen)
           (kept-frozen old.pages log next table l s t last kept here in_order.lists
           (turn-rests old.pages log table s t LOG_START LOG_BYTES (Some t) rest here refl (omega arith) (omega arith) (following log) next (same_later table s is kept (end_of (primary_of (bytes_of s))) (ends table s kept)) (start ∙ rest.log_start)
-          (at_rest (λ u is_u. subst (LogAtRest log) (same_Some _ _ (sym is ∙ is_u)) rest.log_rest) t told)
+          (at_rest s is rest.log_rest t told)
           (subst (λ (at : ℕ). IsLogOf log (segments_of at (bytes_of s)) → IsLogOf next (segments_of at (bytes_of t))) rest.log_start (λ of. log_of s is rest.log_rest of t told) rest.log_of)
           (turned table s is kept t told))
           records none (later_there table s is kept (bytes_of t) (turned table s is kept t told)))

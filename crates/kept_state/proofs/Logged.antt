@@ -1,8 +1,7 @@
 -- The store after a write that was logged and laid in memory.
-use Rattle.std.proofs.Common.{◌≡◌, ℕ, ◌+◌, ◌-◌, ◌^◌, ◌<◌, ◌≤◌, Bool, true, false, List, [], ◌∷◌, ◌++◌, length, length-append, Option, Some, None, Result, Ok, Err, is_some, refl, sym, ◌∙◌, ap, subst, arith}
+use Rattle.std.proofs.Common.{◌≡◌, ℕ, ◌+◌, ◌<◌, ◌≤◌, true, false, List, [], ◌∷◌, ◌++◌, length, length-append, Option, Some, None, Result, Ok, Err, is_some, refl, sym, ◌∙◌, ap, subst, arith}
 use Rattle.std.proofs.lemmas.List.{append_assoc}
 use Rattle.std.proofs.lemmas.Nat.{mod_below}
-use Rattle.std.proofs.lemmas.Option.{same_Some}
 use Rattle.std.specs.Result.{IsErr}
 use Rattle.dev_model.specs.Story.{DeviceState, Story, WhereTold, after, bytes_of, IsOutside}
 use Rattle.dev_model.specs.Moments.{LeavesOnly}
@@ -134,7 +133,7 @@ module _ (old now : DeviceState) (log next : Log) (l m : Lists) (r : Record) (in
   write-failed (Err e) err = record { any_moment = leaves; kept = λ table says. tt; legible = legible }
 
   pub write-logged : {X E : Type 0} (x : X) → m ≡ added (written_row (write_of r.op)) (is_some r.old_point) l → next.start ≡ log.start → next.records ≡ log.records + 1
-      → (WhereTold old.story (LogAtRest log) → WhereTold now.story (LogAtRest next))
+      → WhereTold old.story (λ s. LogAtRest log s → WhereTold now.story (LogAtRest next))
       → WhereTold old.story (λ s. LogAtRest log s → IsLogOf log (segments_of log.start (bytes_of s)) → WhereTold now.story (λ t. IsLogOf next (segments_of log.start (bytes_of t))))
       → WhereTold old.story (λ s. LogAtRest log s → IsLogOf log (segments_of log.start (bytes_of s)) → (ends : List ℕ) → LogOpens ends (segments_of log.start (bytes_of s))
       → WhereTold now.story (λ t. OpensAs ends (records_of (segments_of log.start (bytes_of s)) ++ r ∷ []) (segments_of log.start (bytes_of t))))
@@ -150,6 +149,6 @@ module _ (old now : DeviceState) (log next : Log) (l m : Lists) (r : Record) (in
           subst (λ (other : Lists). IsKept old.pages next (after_write table (write_of r.op)) other t) (sym laid)
           (kept-logged old.pages log next table l s t r kept here in_order next_is
           (append-rests old.pages log table s t LOG_START LOG_BYTES (Some t) rest here refl (omega arith) (omega arith) r next (behind table s kept) says (start ∙ rest.log_start)
-          (at_rest (λ u is_u. subst (LogAtRest log) (same_Some _ _ (sym is ∙ is_u)) rest.log_rest) t told)
+          (at_rest s is rest.log_rest t told)
           (subst (λ (at : ℕ). IsLogOf log (segments_of at (bytes_of s)) → IsLogOf next (segments_of at (bytes_of t))) rest.log_start (λ of. log_of s is rest.log_rest of t told) rest.log_of) opens)
           records opens.records_are says)

@@ -13,13 +13,14 @@ use Rattle.dev_model.specs.Laws.Ranges.{patched-outside}
 use Rattle.table_model.specs.Table.{Table}
 use Rattle.wal_log.specs.declared.log.Log.{Log}
 use Rattle.wal_log.specs.declared.records.Record.{Record}
+use Rattle.gate.specs.declared.gates.TheConstants.{OPEN}
 use Rattle.comp_dir.specs.Places.{slot_start}
 use Rattle.comp_dir.specs.Directory.{directory_of}
 use Rattle.comp_dir.specs.Slots.{slot_bytes}
 use Rattle.comp_dir.specs.State.{IsClosed, IsOneOf, with_slot}
 use Rattle.comp_dir.specs.Resting.{IsAtRest as DirectoryAtRest, install_calls}
 use Rattle.comp_dir.specs.Laws.Agreeing.{directory-at, slot_at-shut}
-use Rattle.comp_dir.specs.declared.places.TheConstants.{OPEN, SLOT_BYTES}
+use Rattle.comp_dir.specs.declared.places.TheConstants.{SLOT_BYTES}
 use Rattle.comp_dir.specs.declared.slots.Slot.{Slot}
 use Rattle.primary_ix.specs.declared.rows.PrimRow.{PrimRow}
 use Rattle.component_image.specs.Components.{IsInExtent}

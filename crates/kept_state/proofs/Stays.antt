@@ -1,5 +1,5 @@
 -- What stays of a store while calls write where nothing of it stands beside the log.
-use Rattle.std.proofs.Common.{◌≡◌, ◌⊎◌, inl, inr, ℕ, ◌+◌, ◌*◌, ◌<◌, ◌≤◌, List, [], ◌∷◌, map, Option, Some, None, Contains, ◌↔◌, refl, sym, ◌∙◌, ap, subst, arith}
+use Rattle.std.proofs.Common.{◌≡◌, inr, ℕ, ◌+◌, ◌*◌, ◌<◌, ◌≤◌, List, [], ◌∷◌, map, Option, Some, None, Contains, ◌↔◌, refl, sym, ◌∙◌, ap, subst, arith}
 use Rattle.std.proofs.lemmas.Option.{same_Some}
 use Rattle.dev_model.specs.Story.{Call, Calls, Read, Write, Sync, FailedWrite, FailedCall, Story, after, with_call, bytes_of, IsOutside, IsReadable, IsSpared}
 use Rattle.dev_model.specs.Writes.{WritesWithin, AreSpared}
@@ -10,7 +10,7 @@ use Rattle.wal_log.specs.declared.places.TheConstants.{LOG_BYTES}
 use Rattle.wal_log.specs.declared.log.Log.{Log}
 use Rattle.format_numbers.specs.declared.TheConstants.{LOG_START}
 use Rattle.comp_dir.specs.Directory.{Directory, Numbered, directory_of, open_slots}
-use Rattle.comp_dir.specs.declared.places.TheConstants.{FIRST_DATA_PAGE, PRIMARY}
+use Rattle.comp_dir.specs.declared.places.TheConstants.{PRIMARY}
 use Rattle.comp_dir.specs.declared.slots.Slot.{Slot}
 use Rattle.build_job.specs.Jobs.{Job}
 use Rattle.build_job.specs.Written.{IsPageOf, AreWritten}

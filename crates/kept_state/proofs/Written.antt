@@ -3,7 +3,7 @@ use Rattle.std.proofs.Common.{◌≡◌, ◌≢◌, ◌⊎◌, inl, inr, ⊎_eli
 use Rattle.std.proofs.lemmas.Bool.Decides.{nat_tests}
 use Rattle.std.proofs.lemmas.Option.{same_Some}
 use Rattle.std.specs.Prelude.{IsTrue, OnOk, Result, Ok, Err}
-use Rattle.dev_model.specs.Story.{Bytes, DeviceState, Story, Write, after, part, with_call, bytes_of, IsOutside, IsReadable}
+use Rattle.dev_model.specs.Story.{DeviceState, Story, Write, after, part, with_call, bytes_of, IsOutside, IsReadable}
 use Rattle.dev_model.specs.Doing.{Did, noted}
 use Rattle.dev_model.specs.Writes.{WritesWithin}
 use Rattle.dev_model.specs.Laws.Frame.{WritesWithin-did}
@@ -11,7 +11,7 @@ use Rattle.dev_model.specs.Laws.Ranges.{part-patched}
 use Rattle.table_model.specs.Table.{Table, rows_of}
 use Rattle.wal_log.specs.Later.{later}
 use Rattle.wal_log.specs.Rules.{records_of}
-use Rattle.wal_log.specs.Segments.{Segments, segments_of}
+use Rattle.wal_log.specs.Segments.{Segments}
 use Rattle.wal_log.specs.declared.places.TheConstants.{LOG_BYTES}
 use Rattle.wal_log.specs.declared.log.Log.{Log}
 use Rattle.format_numbers.specs.declared.TheConstants.{LOG_START}

@@ -4,15 +4,15 @@ ghost use Rattle.dev_model.specs.Doing.{Made};
 ghost use Rattle.wal_log.specs.Records.{HasOld, record_bytes};
 ghost use Rattle.wal_log.specs.State.{turn_calls, following};
 ghost use Rattle.wal_log.specs.Changes.{append_calls};
-ghost use Rattle.image_model.specs.Recovered.{write_of};
+ghost use Rattle.component_image.specs.Replayed.{write_of};
 ghost use Rattle.primary_ix.specs.Wanted.{written_row};
 ghost use Rattle.store_state.specs.Steps.{added, frozen_at};
 ghost use Rattle.store_state.specs.Stepping.{AreInOrder, KeepsTable, LogsWrite};
 ghost use Rattle.kept_state.specs.Writing.{next_record};
 
 use dev_model::{Device, Failed};
+use format_numbers::FIRST_DATA_PAGE;
 use geo_base::{Note, Point};
-use image_model::LOG_PAGES;
 use store_state::State;
 use wal_log::{LSN_LIMIT, Log, LogOp, MOST_RECORDS, Record};
 
@@ -29,7 +29,7 @@ pub fn log_write<D: Device>(
     requires room_in_memory { 1 ≤ state.old.1 }
     requires below { log.old.next_lsn < LSN_LIMIT }
     requires has_old { HasOld op.now old_point }
-    requires pages { LOG_PAGES ≤ (D.seen device.old).pages }
+    requires pages { FIRST_DATA_PAGE ≤ (D.seen device.old).pages }
     requires in_order { AreInOrder log.old state.old.0 }
 
     ensures made { Made (append_calls log.old (next_record log.old op.now old_point)) (D.seen device.old) (D.seen device.new) result }
@@ -70,7 +70,7 @@ fn row_of(op: &LogOp) -> (u64, Option<(Point, Note)>)
 pub fn freeze<D: Device>(device: &mut D, log: &mut Log, state: &mut State) -> Result<(), Failed>
     requires none_frozen { state.old.0.frozen ≡ None }
     requires some { 1 ≤ log.old.records }
-    requires pages { LOG_PAGES ≤ (D.seen device.old).pages }
+    requires pages { FIRST_DATA_PAGE ≤ (D.seen device.old).pages }
     requires in_order { AreInOrder log.old state.old.0 }
 
     ensures made { Made (turn_calls log.old) (D.seen device.old) (D.seen device.new) result }

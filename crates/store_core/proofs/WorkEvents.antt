@@ -1,14 +1,12 @@
 -- The events of freezes, jobs and installs.
 use Rattle.std.proofs.Common.{◌≡◌, ◌≢◌, ◌⊎◌, inl, inr, ℕ, suc, ◌+◌, ◌-◌, ◌*◌, ◌<◌, ◌≤◌, Bool, true, false, List, [], ◌∷◌, ◌++◌, length, Option, Some, None, Result, Ok, Err, is_some, refl, sym, ◌∙◌, ap, subst, arith}
 use Rattle.std.proofs.lemmas.List.{length-append}
-use Rattle.std.proofs.lemmas.Option.{same_Some}
-use Rattle.dev_model.specs.Story.{Calls, Story, WhereTold, Write, clock_of}
+use Rattle.dev_model.specs.Story.{Calls, Story, Write, clock_of}
 use Rattle.dev_model.specs.Doing.{Made}
 use Rattle.dev_model.specs.DeviceCalls.{made_at, ok_calls}
 use Rattle.dev_model.specs.declared.calls.DeviceCall.{DeviceCall}
 use Rattle.dev_model.specs.declared.calls.DeviceAct.TheVariants.{WriteAt}
 use Rattle.page_codec.specs.declared.pages.TheConstants.{PAGE_BYTES}
-use Rattle.table_model.specs.Table.{Table}
 use Rattle.wal_log.specs.State.{turn_calls}
 use Rattle.wal_log.specs.declared.log.Log.{Log}
 use Rattle.comp_dir.specs.Resting.{install_calls}
@@ -31,8 +29,6 @@ use Rattle.store_state.specs.Stepping.{KeepsTable}
 use Rattle.store_state.specs.declared.faults.BeginFault.{BeginFault}
 use Rattle.store_state.specs.declared.faults.BeginFault.TheVariants as begin
 use Rattle.store_state.specs.declared.jobs.JobRow.{JobRow}
-use Rattle.store_state.specs.Keeping.{IsKept}
-use Rattle.store_state.specs.Reading.{IsLegible}
 use Rattle.store_machine.specs.Machine.{Machine, Opening, does, log_turned, row_of}
 use Rattle.store_machine.specs.Needs.{IsWriting, IsWrittenOut, MayFreeze, Needs, RefusesBegin}
 use Rattle.store_machine.specs.Runs.{Acknowledges, IsFront, IsOwned, MakesCalls, Stops, is_fault}

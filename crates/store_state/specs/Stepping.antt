@@ -1,5 +1,5 @@
 -- What a step on its device makes of a store that is kept there.
-use Rattle.std.specs.Prelude.{ℕ, List, Result, OnOk}
+use Rattle.std.specs.Prelude.{List, Result, OnOk}
 use Rattle.dev_model.specs.Story.{Bytes, DeviceState, Story, WhereTold}
 use Rattle.dev_model.specs.Moments.{LeavesOnly}
 use Rattle.table_model.specs.Table.{Table}
@@ -7,7 +7,7 @@ use Rattle.table_model.specs.Answers.{after_write}
 use Rattle.wal_log.specs.Counted.{IsCounted}
 use Rattle.wal_log.specs.declared.log.Log.{Log}
 use Rattle.wal_log.specs.declared.records.Record.{Record}
-use Rattle.image_model.specs.Recovered.{write_of}
+use Rattle.component_image.specs.Replayed.{write_of}
 use Rattle.primary_ix.specs.declared.rows.PrimRow.{PrimRow}
 use Rattle.component_image.specs.Recovered.{Recovers}
 use Rattle.component_image.specs.Standing.{RecoversEither}

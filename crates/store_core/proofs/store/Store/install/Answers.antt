@@ -1,4 +1,5 @@
-use Rattle.std.proofs.Common.{Err, ap, refl, sym, subst}
+use Rattle.std.proofs.Common.{Err, ◌∙◌, ap, refl, sym, subst, arith}
+use Rattle.store_state.specs.Lists.{Lists}
 use Rattle.store_machine.specs.Calls.{Makes}
 use Rattle.store_machine.specs.Standing.{StoreState}
 use Rattle.dev_model.specs.Story.{DeviceState}
@@ -30,3 +31,16 @@ returns-in-Err-clause-event g c =
     (ap (state_of g.D.Device.seen) c.stop.ensures.stopped))
     (record { going = c.in_default.is; made = c.in-Err.ensures.made; table = c.in-Err.ensures.table c.args.self.now.log c.requires.ready.numbered; clock_told = λ s is. g.met.D.Device.clock_told _ s is })
     c.requires.begun c.requires.ready.lists c.requires.written)
+
+pub returns-in-Ok-clause-ready : goal.returns-in-Ok-clause-ready
+returns-in-Ok-clause-ready g c =
+    let ready = c.requires.ready in
+    let in_order = c.in-Ok.ensures.in_order c.args.self.now.log (record { lists = ready.lists; numbered = ready.numbered; counted = ready.counted }) in
+    let installed = c.in-Ok.ensures.lists c.requires.begun.row c.requires.begun.is in
+    record {
+      pages = omega (arith, ready.pages, c.in-Ok.ensures.made.same_pages);
+      space = ap (λ (l : Lists). l.space.pages) installed ∙ ready.space ∙ sym c.in-Ok.ensures.made.same_pages;
+      lists = in_order.lists;
+      numbered = in_order.numbered;
+      counted = in_order.counted;
+    }
