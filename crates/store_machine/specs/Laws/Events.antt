@@ -69,6 +69,9 @@ allowed old new owner action made failed owes known o m has tells calls ticks = 
   time = let at : old.device.clock ≡ m.clock = has.clock in omega (arith, at, owes.time);
 }
 
+never : {P : Type 0} → false ≡ true → P
+never is = absurd (let e : true ≡ false = sym is in cc)
+
 -- what a call that stops nothing does to the store
 abbrev unstopped : (old : StoreState) (now : DeviceState) (log : Log) (lists : Lists) (seq : ℕ) (action : Action) (table : Table → Table) (disk : List (List PrimRow) → List (List PrimRow)) → now.pages ≡ old.device.pages
     → ((m : Machine) → Has old m → does action m ≡ record m { seq = seq; log = log; lists = lists; disk = disk m.disk; table = table m.table })
@@ -80,8 +83,8 @@ unstopped old now log lists seq action table disk pages done = record {
   acks = refl;
   pages = pages;
   stopped = refl;
-  running = λ no. absurd (let e : true ≡ false = sym no in cc);
-  group = λ no. absurd (let e : true ≡ false = sym no in cc);
+  running = never;
+  group = never;
   table = table;
   disk = disk;
   done = done;
